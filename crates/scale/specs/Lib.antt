@@ -1,0 +1,5 @@
+pub mod Ceilings
+pub mod Laws
+pub mod Sums
+pub mod Worsts
+pub mod Joins
