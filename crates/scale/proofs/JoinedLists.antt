@@ -1,7 +1,7 @@
 -- What the laws of a scale say of joined lists. Since a penalty above the ceiling counts as the ceiling, none of this asks
 -- for penalties up to the ceiling.
-use mathlib.Core.Path.{_≡_, refl, sym, ap, _∙_}
-use mathlib.Core.List.{List, [], _∷_}
+use mathlib.Core.Path.{_≡_, refl, sym, ap, subst, _∙_}
+use mathlib.Core.List.{List, [], _∷_, _++_}
 use mathlib.Core.Logic.{_≢_, ⊎-elim}
 use Prim.Native.Nat.{ℕ, zero, suc, _≤_, _<_}
 use native.Mathlib.Omega.{arith}
@@ -12,8 +12,13 @@ use Rattle.std.specs.shelf.Sorted.{Shuffled}
 use Rattle.std.proofs.shelf.Lists.{set-set, set-comm, set-getD, getD-set-same, getD-set-other, length-set, getD-default}
 use Rattle.std.proofs.shelf.Sorted.{shuffled-keeps}
 use Rattle.std.proofs.shelf.Tests.{cases-eq}
+use Rattle.scale.specs.Ceilings.{highest, effective}
 use Rattle.scale.specs.Laws.{Lawful}
 use Rattle.scale.specs.Joins.{joined}
+
+-- up to the highest, a ceiling is the one that counts
+pub lawful-at : (c : ℕ) (join rest : ℕ → ℕ → ℕ) → c ≤ highest → Lawful (effective c) join rest → Lawful c join rest
+lawful-at c join rest h law = let same : effective c ≡ c = omega arith in subst (λ (k : ℕ). Lawful k join rest) same law
 
 module _ {c : ℕ} {join rest : ℕ → ℕ → ℕ} (law : Lawful c join rest) where
   pub zero-left : (a : ℕ) → a ≤ c → join 0 a ≡ a
@@ -45,8 +50,19 @@ module _ {c : ℕ} {join rest : ℕ → ℕ → ℕ} (law : Lawful c join rest) 
       let turned = ap (λ (a : ℕ). folded join a xs) (law .commutative 0 x) in
       turned ∙ folded-start x 0 xs
 
-  joined-zero : (xs : List ℕ) → joined join (0 ∷ xs) ≡ joined join xs
+  -- a 0 in front may be left out
+  pub joined-zero : (xs : List ℕ) → joined join (0 ∷ xs) ≡ joined join xs
   joined-zero xs = joined-cons 0 xs ∙ zero-left (joined join xs) (joined-bounded xs)
+
+  -- two lists one after the other
+  pub joined-append : (xs ys : List ℕ) → joined join (xs ++ ys) ≡ join (joined join xs) (joined join ys)
+  joined-append [] ys = sym (zero-left (joined join ys) (joined-bounded ys))
+  joined-append (x ∷ xs) ys =
+      let one = joined-cons x (xs ++ ys) in
+      let two = joined-cons x xs in
+      let three = joined-append xs ys in
+      let four = law .associative x (joined join xs) (joined join ys) in
+      cc
 
   -- a list is the penalty at a place joined to the others, with 0 left in its place
   pub place-out : (xs : List ℕ) (i : ℕ) → joined join xs ≡ join (getD xs i 0) (joined join (set xs i 0))

@@ -1,2 +1,3 @@
 pub mod JoinedLists
+pub mod JoinedRanges
 pub mod TwoScales

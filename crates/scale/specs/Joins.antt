@@ -1,8 +1,8 @@
 -- The joined penalty of a list of penalties.
 use mathlib.Core.Path.{_≡_}
-use mathlib.Core.List.{List}
+use mathlib.Core.List.{List, map}
 use Prim.Native.Nat.{ℕ, min}
-use Rattle.std.specs.Iters.{folded}
+use Rattle.std.specs.Iters.{folded, counting}
 use Rattle.std.specs.shelf.Lists.{sum}
 use Rattle.std.specs.shelf.Sorted.{Shuffled}
 use Rattle.scale.specs.Ceilings.{effective, clamped}
@@ -12,6 +12,10 @@ use Rattle.scale.specs.Worsts.{worst-join, largest}
 -- from 0 on, each penalty joined to what the ones before it came to
 abbrev pub joined : (ℕ → ℕ → ℕ) → List ℕ → ℕ
 joined join xs = folded join 0 xs
+
+-- f 0, f 1, .., f (n - 1) joined
+abbrev pub joined-over : (ℕ → ℕ → ℕ) → ℕ → (ℕ → ℕ) → ℕ
+joined-over join n f = joined join (map f (counting 0 n))
 
 -- every reordering of the list joins to total
 abbrev pub Any-order-joins-to : ℕ → (ℕ → ℕ → ℕ) → List ℕ → Type 0

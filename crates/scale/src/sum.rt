@@ -1,5 +1,4 @@
 // The sum scale.
-ghost use mathlib.Core.Path.{_≡_};
 ghost use Rattle.scale.specs.Ceilings.{clamped};
 ghost use Rattle.scale.specs.Sums.{sum-join, sum-rest};
 use crate::Scale;

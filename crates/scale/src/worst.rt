@@ -1,5 +1,4 @@
 // The worst scale.
-ghost use mathlib.Core.Path.{_≡_};
 ghost use Rattle.scale.specs.Ceilings.{clamped};
 ghost use Rattle.scale.specs.Worsts.{worst-join, worst-rest};
 use crate::Scale;

@@ -1,5 +1,6 @@
-// Reads a ceiling and penalties from standard input, and prints their running joins and joined penalty on both scales.
-use joins::answer::answer;
+// Reads a ceiling and penalties from standard input. Prints their running joins and joined penalty on both scales, and
+// what the tunings of a small plan cost at that ceiling.
+use report::answer::answer;
 use std::io;
 use std::io::Read;
 

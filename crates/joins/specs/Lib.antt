@@ -1,4 +1,0 @@
-pub mod Fields
-pub mod Refusals
-pub mod Readings
-pub mod Reports

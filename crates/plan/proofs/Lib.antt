@@ -1,0 +1,14 @@
+pub mod Accepts
+pub mod Checks
+pub mod FilledPlans
+pub mod Firsts
+pub mod NewPlans
+pub mod OpenTunings
+pub mod OwnRows
+pub mod PairLists
+pub mod PairPlaces
+pub mod PartLists
+pub mod RecordCosts
+pub mod RecordFaults
+pub mod Tracking
+pub mod Writes

@@ -1,0 +1,10 @@
+pub mod Layout
+pub mod Invariant
+pub mod Tunings
+pub mod Costs
+pub mod Numbers
+pub mod Fresh
+pub mod Records
+pub mod Faults
+pub mod Filling
+pub mod Fillable

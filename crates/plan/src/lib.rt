@@ -1,0 +1,22 @@
+// A plan: entries with their candidates, the penalties of candidates and of pairs of candidates, and the limits of them
+// all. Published as a weighted constraint network.
+ghost use Rattle.plan.specs.Invariant.{Sound};
+
+mod check;
+pub mod cost;
+pub mod fill;
+mod filling;
+pub mod make;
+mod parts;
+pub mod reads;
+pub mod records;
+pub mod refusals;
+pub mod tables;
+
+// A plan on a scale. What it holds stands in plain tables, of which the invariant holds in every plan.
+#[derive(Drop)]
+pub struct Plan<S> {
+    scale: S,
+    tables: tables::Tables,
+    ghost sound: { Sound tables },
+}

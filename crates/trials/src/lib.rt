@@ -1,0 +1,5 @@
+// Compared runs: what calls answer on worked cases.
+#[cfg(test)]
+mod costs;
+#[cfg(test)]
+mod fills;
