@@ -1,7 +1,8 @@
 // Worked cases. The contract is a table of equations that the checker computes from the definitions; the body makes the
-// same calls, and the answers are the table's.
+// calls of the scales, and the answers are the table's.
 ghost use mathlib.Core.Path.{_≡_};
 ghost use mathlib.Core.List.{[], _∷_};
+ghost use Rattle.cases.specs.Closings.{Closing-cases};
 ghost use Rattle.cases.specs.Scales.{Scale-cases};
 use scale::Scale;
 use scale::sum::SumIsScale;
@@ -9,9 +10,10 @@ use scale::sum::SumScale;
 use scale::worst::WorstIsScale;
 use scale::worst::WorstScale;
 
-// What the calls answer, row by row.
+// What the calls of the scales answer, row by row.
 pub fn worked_cases() -> [u32; 5]
     ensures scales { λ _. ⌜ Scale-cases ⌝ }
+    ensures closing { λ _. ⌜ Closing-cases ⌝ }
     ensures answers_are_the_tables { λ r. ⌜ r ≡ 10 ∷ 5 ∷ 10 ∷ 5 ∷ 5 ∷ [] ⌝ }
 {
     [

@@ -32,7 +32,7 @@ pub some-none : {A : Type 0} {x : A} → Some x ≡ None → ⊥
 some-none e = let z : _≡_ {A = ℕ} 0 1 = cc in omega arith
 
 -- where a test decides between a fault and what comes later, none is found only if it passes
-passed : {A : Type 0} (b : Bool) (fault : A) (later : Option A) → cond b later (Some fault) ≡ None → (b ≡ true) × (later ≡ None)
+pub passed : {A : Type 0} (b : Bool) (fault : A) (later : Option A) → cond b later (Some fault) ≡ None → (b ≡ true) × (later ≡ None)
 passed true fault later e = (refl, e)
 passed false fault later e = absurd (some-none e)
 

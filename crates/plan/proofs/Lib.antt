@@ -2,12 +2,14 @@ pub mod Accepts
 pub mod Checks
 pub mod FilledPlans
 pub mod Firsts
+pub mod Keepings
 pub mod NewPlans
 pub mod OpenTunings
 pub mod OwnRows
 pub mod PairLists
 pub mod PairPlaces
 pub mod PartLists
+pub mod Playing
 pub mod RecordCosts
 pub mod RecordFaults
 pub mod Tracking

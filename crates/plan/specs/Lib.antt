@@ -8,3 +8,7 @@ pub mod Records
 pub mod Faults
 pub mod Filling
 pub mod Fillable
+pub mod Weights
+pub mod Closing
+pub mod Keeping
+pub mod Histories

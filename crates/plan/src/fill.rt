@@ -8,6 +8,7 @@ ghost use Rattle.std.specs.Vec.{made};
 ghost use Rattle.plan.specs.Costs.{cost};
 ghost use Rattle.plan.specs.Fillable.{Fillable, Listed-tuning, Open-as-listed, filled-cost};
 ghost use Rattle.plan.specs.Filling.{filled-tables, fill-answer, fill-after};
+ghost use Rattle.plan.specs.Histories.{Call, played, No-cheap-tuning-lost};
 ghost use Rattle.plan.specs.Invariant.{Sound};
 use crate::Plan;
 use crate::records::PairRecord;
@@ -31,6 +32,7 @@ impl<S: Scale> Plan<S> {
         ensures accepts_exactly_what_is_fillable { λ r. ⌜ Decides (isOk r) (Fillable (now (self .entry) .tables) ceiling (now (counts .entry)) (now (own .entry)) (now (pairs .entry))) ⌝ }
         ensures its_open_tunings_are_those_of_the_lists { λ r. ⌜ made r (λ _. (t : List ℕ) → Open-as-listed (now (counts .entry)) (now (self .exit) .tables) t) ⌝ }
         ensures every_tuning_costs_its_filled_cost { λ r. ⌜ made r (λ _. (t : List ℕ) → Listed-tuning (now (counts .entry)) t → cost (join (now (self .exit) .scale) ceiling) (now (self .exit) .tables) t ≡ filled-cost (join (now (self .exit) .scale) ceiling) (now (counts .entry)) (now (own .entry)) (now (pairs .entry)) t) ⌝ }
+        ensures no_calls_lose_a_cheap_tuning { λ r. ⌜ made r (λ _. (calls : List Call) → No-cheap-tuning-lost (join (now (self .exit) .scale) ceiling) (now (counts .entry)) (now (own .entry)) (now (pairs .entry)) (played (join (now (self .exit) .scale) ceiling) (now (self .exit) .tables) calls)) ⌝ }
     {
         if let Some(fault) = self.tables.fill_fault(ceiling, counts, own, pairs) {
             return Err(fault);
@@ -46,6 +48,7 @@ impl<S: Scale> Plan<S> {
         ensures are_sound { λ r. ⌜ Sound r ⌝ }
         ensures open_tunings_are_those_of_the_lists { λ r. ⌜ ((t : List ℕ) → Open-as-listed (now (counts .entry)) r t) ⌝ }
         ensures every_tuning_costs_its_filled_cost { λ r. ⌜ ((t : List ℕ) → Listed-tuning (now (counts .entry)) t → cost (join (now (self .entry) .scale) ceiling) r t ≡ filled-cost (join (now (self .entry) .scale) ceiling) (now (counts .entry)) (now (own .entry)) (now (pairs .entry)) t) ⌝ }
+        ensures no_calls_lose_a_cheap_tuning { λ r. ⌜ ((calls : List Call) → No-cheap-tuning-lost (join (now (self .entry) .scale) ceiling) (now (counts .entry)) (now (own .entry)) (now (pairs .entry)) (played (join (now (self .entry) .scale) ceiling) r calls)) ⌝ }
     {
         Tables::filled(ceiling, counts, own, pairs)
     }

@@ -3,6 +3,7 @@
 ghost use Rattle.plan.specs.Invariant.{Sound};
 
 mod check;
+pub mod closing;
 pub mod cost;
 pub mod fill;
 mod filling;

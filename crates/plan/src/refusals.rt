@@ -13,6 +13,8 @@ pub enum Refusal {
     RepeatedCell,
     TooManyPairs,
     Absent,
+    BoundOutOfRange,
+    NotAllowed,
 }
 
 impl Refusal {
@@ -30,6 +32,8 @@ impl Refusal {
             Refusal::RepeatedCell => 7,
             Refusal::TooManyPairs => 8,
             Refusal::Absent => 9,
+            Refusal::BoundOutOfRange => 13,
+            Refusal::NotAllowed => 15,
         }
     }
 }

@@ -24,6 +24,17 @@ module _ {c : ℕ} {join rest : ℕ → ℕ → ℕ} (law : Lawful c join rest) 
   pub zero-left : (a : ℕ) → a ≤ c → join 0 a ≡ a
   zero-left a h = law .commutative 0 a ∙ law .neutral a h
 
+  -- joining more gives at least as much
+  pub monotone-both : (a b d e : ℕ) → a ≤ b → d ≤ e → join a d ≤ join b e
+  monotone-both a b d e h k = omega (arith, law .monotone a b d h, law .monotone d e b k, law .commutative d b, law .commutative e b)
+
+  -- what is joined is at least each part
+  pub left-at-most : (a b : ℕ) → a ≤ c → a ≤ join a b
+  left-at-most a b h = omega (arith, monotone-both a a 0 b (omega arith) (omega arith), law .neutral a h)
+
+  pub right-at-most : (a b : ℕ) → b ≤ c → b ≤ join a b
+  right-at-most a b h = omega (arith, left-at-most b a h, law .commutative a b)
+
   -- the first two of three may change places
   pub front-swap : (a b d : ℕ) → join a (join b d) ≡ join b (join a d)
   front-swap a b d =

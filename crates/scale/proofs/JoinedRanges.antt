@@ -2,7 +2,7 @@
 use mathlib.Core.Path.{_≡_, refl, ap, _∙_}
 use mathlib.Core.List.{[], _∷_, _++_, map}
 use mathlib.Core.Logic.{_≢_, ⊎-elim}
-use Prim.Native.Nat.{ℕ, zero, suc, _+_, _<_}
+use Prim.Native.Nat.{ℕ, zero, suc, _+_, _≤_, _<_}
 use native.Mathlib.Numerals.{add-one}
 use native.Mathlib.Omega.{arith}
 use Rattle.std.specs.Iters.{counting}
@@ -11,7 +11,7 @@ use Rattle.std.proofs.shelf.Sums.{folded-push}
 use Rattle.std.proofs.shelf.Tests.{cases-eq}
 use Rattle.scale.specs.Joins.{joined, joined-over}
 use Rattle.scale.specs.Laws.{Lawful}
-use Rattle.scale.proofs.JoinedLists.{zero-left}
+use Rattle.scale.proofs.JoinedLists.{zero-left, left-at-most, right-at-most, joined-bounded}
 
 -- one more at the end
 pub over-more : (join : ℕ → ℕ → ℕ) (n : ℕ) (f : ℕ → ℕ) → joined-over join (suc n) f ≡ join (joined-over join n f) (f n)
@@ -62,3 +62,15 @@ module _ {c : ℕ} {join rest : ℕ → ℕ → ℕ} (law : Lawful c join rest) 
       let g3 = law .associative (joined-over join n f) a (f n) in
       cc)
       (cases-eq n k)
+
+  -- a place is at most the whole
+  pub over-at-most : (n k : ℕ) (f : ℕ → ℕ) → k < n → f k ≤ c → f k ≤ joined-over join n f
+  over-at-most zero k f l h = absurd (omega arith)
+  over-at-most (suc n) k f l h =
+      let more = over-more join n f in
+      ⊎-elim
+      (λ (q : k ≡ n). let here = ap f q in omega (arith, right-at-most law (joined-over join n f) (f n) (omega arith)))
+      (λ (q : k ≡ n → ⊥).
+      let rec = over-at-most n k f (grind arith) h in
+      omega (arith, left-at-most law (joined-over join n f) (f n) (joined-bounded law (map f (counting 0 n)))))
+      (cases-eq k n)
