@@ -1,7 +1,6 @@
 -- Worked cases of closing, on the sum scale: bound 10, floor 1, and candidates of the weights 9 and 8.
 use mathlib.Core.Path.{_≡_}
 use mathlib.Core.List.{[], _∷_}
-use Prim.Native.Nat.{ℕ}
 use Rattle.std.specs.declared.option.Option.the-variants.{None}
 use Rattle.std.specs.declared.result.Result.the-variants.{Ok, Err}
 use Rattle.scale.specs.Ceilings.{clamped}

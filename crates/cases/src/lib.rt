@@ -3,6 +3,7 @@
 ghost use mathlib.Core.Path.{_≡_};
 ghost use mathlib.Core.List.{[], _∷_};
 ghost use Rattle.cases.specs.Closings.{Closing-cases};
+ghost use Rattle.cases.specs.Lifts.{Amount-cases, Moving-cases};
 ghost use Rattle.cases.specs.Scales.{Scale-cases};
 use scale::Scale;
 use scale::sum::SumIsScale;
@@ -14,6 +15,8 @@ use scale::worst::WorstScale;
 pub fn worked_cases() -> [u32; 5]
     ensures scales { λ _. ⌜ Scale-cases ⌝ }
     ensures closing { λ _. ⌜ Closing-cases ⌝ }
+    ensures amounts { λ _. ⌜ Amount-cases ⌝ }
+    ensures moves { λ _. ⌜ Moving-cases ⌝ }
     ensures answers_are_the_tables { λ r. ⌜ r ≡ 10 ∷ 5 ∷ 10 ∷ 5 ∷ 5 ∷ [] ⌝ }
 {
     [

@@ -36,7 +36,7 @@ pub passed : {A : Type 0} (b : Bool) (fault : A) (later : Option A) → cond b l
 passed true fault later e = (refl, e)
 passed false fault later e = absurd (some-none e)
 
-not-failed : {A : Type 0} (b : Bool) (fault : A) (later : Option A) → cond b (Some fault) later ≡ None → (b ≡ false) × (later ≡ None)
+pub not-failed : {A : Type 0} (b : Bool) (fault : A) (later : Option A) → cond b (Some fault) later ≡ None → (b ≡ false) × (later ≡ None)
 not-failed true fault later e = absurd (some-none e)
 not-failed false fault later e = (refl, e)
 

@@ -1,19 +1,19 @@
 -- What keeps every cheap tuning: nothing at all, one thing after another, a candidate closed, the bound lowered.
-use mathlib.Core.Path.{_≡_, refl, sym, ap, subst, _∙_}
-use mathlib.Core.Bool.{Bool, true, false, cond, _&&_}
+use mathlib.Core.Path.{_≡_, refl, sym, ap, _∙_}
+use mathlib.Core.Bool.{Bool, true, false}
 use mathlib.Core.List.{List, [], _∷_, _++_, map}
 use mathlib.Core.Logic.{⊎-elim}
-use Prim.Native.Nat.{ℕ, zero, suc, _+_, _*_, _≤_, _<_}
+use Prim.Native.Nat.{ℕ, zero, suc, _+_, _≤_, _<_}
 use native.Mathlib.Omega.{arith}
-use lib.Dec.{eqb, leb, ltb}
-use lib.ListN.{length, getD, set}
+use lib.Dec.{ltb}
+use lib.ListN.{getD, set}
 use Rattle.std.specs.Iters.{counting}
 use Rattle.std.specs.declared.option.Option.{Option}
 use Rattle.std.specs.declared.option.Option.the-variants.{Some, None}
 use Rattle.std.proofs.shelf.Lists.{getD-set-other, length-set}
-use Rattle.std.proofs.shelf.Tests.{cases-bool, cases-eq, both-ways, and-parts, and-from, ltb-true, leb-true, eqb-true, cond-both}
+use Rattle.std.proofs.shelf.Tests.{cases-bool, cases-eq, both-ways, and-parts, and-from, ltb-true, leb-true}
 use Rattle.std.proofs.shelf.Ways.{tells}
-use Rattle.scale.specs.Joins.{joined, joined-over}
+use Rattle.scale.specs.Joins.{joined}
 use Rattle.scale.specs.Laws.{Lawful}
 use Rattle.scale.proofs.JoinedLists.{monotone-both, left-at-most, joined-bounded, joined-cons, joined-append}
 use Rattle.scale.proofs.JoinedRanges.{over-at-most}
@@ -26,7 +26,12 @@ use Rattle.plan.specs.Keeping.{Keeps}
 use Rattle.plan.specs.Layout.{candidate-place, count-of, own-of, open-at, is-there, is-open}
 use Rattle.plan.specs.Tunings.{Open-tuning, is-open-tuning}
 use Rattle.plan.specs.Weights.{held-for, weight}
-use Rattle.plan.proofs.OpenTunings.{open-tuning, is-open-from, tuning-from-open}
+use Rattle.plan.proofs.OpenTunings.{open-tuning, is-open-from}
+
+-- a call keeps what it should, and leaves sound tables
+pub record Kept (join : ℕ → ℕ → ℕ) (x y : Tables) : Type 0 where
+  pub keeps : Keeps join x y
+  pub sound : Sound y
 
 pub keeps-refl : (join : ℕ → ℕ → ℕ) (x : Tables) → Keeps join x x
 keeps-refl join x = record {

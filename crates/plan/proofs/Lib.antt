@@ -1,8 +1,10 @@
 pub mod Accepts
+pub mod Adjusting
 pub mod Checks
 pub mod FilledPlans
 pub mod Firsts
 pub mod Keepings
+pub mod Lifts
 pub mod NewPlans
 pub mod OpenTunings
 pub mod OwnRows
@@ -12,5 +14,7 @@ pub mod PartLists
 pub mod Playing
 pub mod RecordCosts
 pub mod RecordFaults
+pub mod RowSteps
 pub mod Tracking
+pub mod Transfers
 pub mod Writes

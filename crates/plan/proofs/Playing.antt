@@ -1,33 +1,27 @@
 -- No list of calls loses a cheap tuning.
-use mathlib.Core.Path.{_≡_, refl, sym, _∙_}
-use mathlib.Core.Bool.{Bool, true, false}
+use mathlib.Core.Path.{_≡_, refl, _∙_}
 use mathlib.Core.List.{List, [], _∷_}
-use mathlib.Core.Logic.{⊎-elim}
-use Prim.Native.Nat.{ℕ, _≤_}
+use Prim.Native.Nat.{ℕ}
 use native.Mathlib.Omega.{arith}
 use lib.Dec.{leb}
 use Rattle.std.specs.declared.option.Option.{Option}
 use Rattle.std.specs.declared.option.Option.the-variants.{Some, None}
-use Rattle.std.proofs.shelf.Tests.{cases-bool, and-parts, leb-true}
+use Rattle.std.proofs.shelf.Tests.{and-parts, leb-true}
 use Rattle.scale.specs.Laws.{Lawful}
 use Rattle.plan.specs.declared.records.PairRecord.{PairRecord}
 use Rattle.plan.specs.declared.refusals.Refusal.{Refusal}
 use Rattle.plan.specs.declared.tables.Tables.{Tables}
-use Rattle.plan.specs.Closing.{unless-refused, may-close, close-refusal, with-closed, close-after, lower-refusal, with-bound, lower-after}
+use Rattle.plan.specs.Closing.{unless-refused, may-close, close-refusal, with-closed, lower-refusal, with-bound}
 use Rattle.plan.specs.Costs.{cost}
 use Rattle.plan.specs.Fillable.{Listed-tuning, Open-as-listed, filled-cost}
-use Rattle.plan.specs.Histories.{Call, closing, lowering, after-call, played, No-cheap-tuning-lost}
+use Rattle.plan.specs.Histories.{Call, closing, lowering, lifting, setting-down, after-call, played, No-cheap-tuning-lost}
 use Rattle.plan.specs.Invariant.{Sound}
 use Rattle.plan.specs.Keeping.{Keeps}
 use Rattle.plan.specs.Layout.{is-open}
-use Rattle.plan.specs.Tunings.{Open-tuning}
+use Rattle.plan.specs.Lifting.{lift-refusal, lifted, set-refusal, set-down-in}
 use Rattle.plan.proofs.Accepts.{passed}
-use Rattle.plan.proofs.Keepings.{keeps-refl, keeps-trans, close-keeps, close-sound, bound-keeps, bound-sound}
-
--- a call keeps what it should, and leaves sound tables
-pub record Kept (join : ℕ → ℕ → ℕ) (x y : Tables) : Type 0 where
-  pub keeps : Keeps join x y
-  pub sound : Sound y
+use Rattle.plan.proofs.Transfers.{lift-kept, set-kept}
+use Rattle.plan.proofs.Keepings.{Kept, keeps-refl, keeps-trans, close-keeps, close-sound, bound-keeps, bound-sound}
 
 -- a refused call does
 unless-kept : (join : ℕ → ℕ → ℕ) (x y : Tables) (o : Option Refusal) → Sound x → (o ≡ None → Kept join x y) → Kept join x (unless-refused o x y)
@@ -48,17 +42,19 @@ module _ {c : ℕ} {join rest : ℕ → ℕ → ℕ} (law : Lawful c join rest) 
       let high = leb-true b (x .limits .bound) (range .1) in
       record { keeps = bound-keeps join x b high; sound = bound-sound x b low high s }
 
-  call-kept : (x : Tables) (call : Call) → Sound x → x .limits .ceiling ≡ c → Kept join x (after-call join x call)
+  call-kept : (x : Tables) (call : Call) → Sound x → x .limits .ceiling ≡ c → Kept join x (after-call join rest x call)
   call-kept x (closing e k) s top = unless-kept join x (with-closed x e k) (close-refusal join x e k) s (close-kept x e k s top)
   call-kept x (lowering b) s top = unless-kept join x (with-bound x b) (lower-refusal x b) s (lower-kept x b s)
+  call-kept x (lifting from e k amount) s top = unless-kept join x (lifted rest x from e k amount) (lift-refusal x from e k amount) s (lift-kept law x s top from e k amount)
+  call-kept x (setting-down e k amount to) s top = unless-kept join x (set-down-in join x e k amount to) (set-refusal x e k amount to) s (set-kept law x s top e k amount to)
 
-  pub played-kept : (x : Tables) (calls : List Call) → Sound x → x .limits .ceiling ≡ c → Kept join x (played join x calls)
+  pub played-kept : (x : Tables) (calls : List Call) → Sound x → x .limits .ceiling ≡ c → Kept join x (played join rest x calls)
   played-kept x [] s top = record { keeps = keeps-refl join x; sound = s }
   played-kept x (call ∷ calls) s top =
-      let y = after-call join x call in
+      let y = after-call join rest x call in
       let one = call-kept x call s top in
       let more = played-kept y calls (one .sound) (one .keeps .same-ceiling ∙ top) in
-      record { keeps = keeps-trans join x y (played join y calls) (one .keeps) (more .keeps); sound = more .sound }
+      record { keeps = keeps-trans join x y (played join rest y calls) (one .keeps) (more .keeps); sound = more .sound }
 
 -- what is kept of newly filled tables is what the lists said
 pub none-lost : (join : ℕ → ℕ → ℕ) (counts own : List ℕ) (rs : List PairRecord) (x y : Tables) → ((t : List ℕ) → Open-as-listed counts x t) →

@@ -11,4 +11,6 @@ pub mod Fillable
 pub mod Weights
 pub mod Closing
 pub mod Keeping
+pub mod Rows
+pub mod Lifting
 pub mod Histories

@@ -3,7 +3,7 @@ use Prim.Native.Nat.{ℕ}
 use Rattle.plan.specs.declared.refusals.FillList.{FillList}
 use Rattle.plan.specs.declared.refusals.FillList.the-variants.{Counts, Own, Pairs}
 use Rattle.plan.specs.declared.refusals.Refusal.{Refusal}
-use Rattle.plan.specs.declared.refusals.Refusal.the-variants.{CeilingOutOfRange, AlreadyFilled, CountOutOfRange, OwnLength, PointsAboveCeiling, RecordOfAbsent, RepeatedCell, TooManyPairs, Absent, BoundOutOfRange, NotAllowed}
+use Rattle.plan.specs.declared.refusals.Refusal.the-variants.{CeilingOutOfRange, AlreadyFilled, CountOutOfRange, OwnLength, PointsAboveCeiling, RecordOfAbsent, RepeatedCell, TooManyPairs, Absent, AmountOutOfRange, HandNotEmpty, NotInHand, BoundOutOfRange, NotAllowed}
 
 abbrev pub number-of : Refusal → ℕ
 number-of CeilingOutOfRange = 1
@@ -15,6 +15,9 @@ number-of RecordOfAbsent = 6
 number-of RepeatedCell = 7
 number-of TooManyPairs = 8
 number-of Absent = 9
+number-of AmountOutOfRange = 10
+number-of HandNotEmpty = 11
+number-of NotInHand = 12
 number-of BoundOutOfRange = 13
 number-of NotAllowed = 15
 

@@ -2,6 +2,7 @@
 ghost use mathlib.Core.Path.{_≡_};
 ghost use mathlib.Core.Bool.{true};
 ghost use Rattle.std.specs.declared.option.Option.the-variants.{None};
+ghost use Rattle.std.specs.declared.result.Result.the-variants.{Ok, Err};
 ghost use Rattle.plan.specs.Closing.{close-refusal, with-closed, close-answer, close-after, lower-refusal, with-bound, lower-answer, lower-after};
 ghost use Rattle.plan.specs.Invariant.{Sound};
 ghost use Rattle.plan.specs.Keeping.{Keeps};
@@ -80,6 +81,7 @@ impl<S: Scale> Plan<S> {
     pub fn close(&mut self, entry: usize, candidate: usize) -> Result<(), Refusal>
         ensures answers { λ r. ⌜ r ≡ close-answer (join (now (self .entry) .scale) (now (self .entry) .tables .limits .ceiling)) (now (self .entry) .tables) entry candidate ⌝ }
         ensures leaves { λ _. ⌜ now (self .exit) .tables ≡ close-after (join (now (self .entry) .scale) (now (self .entry) .tables .limits .ceiling)) (now (self .entry) .tables) entry candidate ⌝ }
+        ensures refusal_changes_nothing { λ r. ⌜ elim r [ Ok _ ↦ Unit {0} | Err _ ↦ now (self .exit) .tables ≡ now (self .entry) .tables ] ⌝ }
         ensures keeps_its_scale { λ _. ⌜ now (self .exit) .scale ≡ now (self .entry) .scale ⌝ }
         ensures keeps_every_cheap_tuning { λ _. ⌜ Keeps (join (now (self .entry) .scale) (now (self .entry) .tables .limits .ceiling)) (now (self .entry) .tables) (now (self .exit) .tables) ⌝ }
     {
@@ -115,6 +117,7 @@ impl<S: Scale> Plan<S> {
     pub fn lower(&mut self, bound: u32) -> Result<(), Refusal>
         ensures answers { λ r. ⌜ r ≡ lower-answer (now (self .entry) .tables) bound ⌝ }
         ensures leaves { λ _. ⌜ now (self .exit) .tables ≡ lower-after (now (self .entry) .tables) bound ⌝ }
+        ensures refusal_changes_nothing { λ r. ⌜ elim r [ Ok _ ↦ Unit {0} | Err _ ↦ now (self .exit) .tables ≡ now (self .entry) .tables ] ⌝ }
         ensures keeps_its_scale { λ _. ⌜ now (self .exit) .scale ≡ now (self .entry) .scale ⌝ }
         ensures keeps_every_cheap_tuning { λ _. ⌜ Keeps (join (now (self .entry) .scale) (now (self .entry) .tables .limits .ceiling)) (now (self .entry) .tables) (now (self .exit) .tables) ⌝ }
     {

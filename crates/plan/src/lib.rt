@@ -7,12 +7,16 @@ pub mod closing;
 pub mod cost;
 pub mod fill;
 mod filling;
+pub mod lifting;
 pub mod make;
 mod parts;
+pub mod place;
 pub mod reads;
 pub mod records;
 pub mod refusals;
+mod rows;
 pub mod tables;
+pub mod token;
 
 // A plan on a scale. What it holds stands in plain tables, of which the invariant holds in every plan.
 #[derive(Drop)]

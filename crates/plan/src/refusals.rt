@@ -13,6 +13,9 @@ pub enum Refusal {
     RepeatedCell,
     TooManyPairs,
     Absent,
+    AmountOutOfRange,
+    HandNotEmpty,
+    NotInHand,
     BoundOutOfRange,
     NotAllowed,
 }
@@ -32,6 +35,9 @@ impl Refusal {
             Refusal::RepeatedCell => 7,
             Refusal::TooManyPairs => 8,
             Refusal::Absent => 9,
+            Refusal::AmountOutOfRange => 10,
+            Refusal::HandNotEmpty => 11,
+            Refusal::NotInHand => 12,
             Refusal::BoundOutOfRange => 13,
             Refusal::NotAllowed => 15,
         }

@@ -5,3 +5,6 @@ mod closings;
 mod costs;
 #[cfg(test)]
 mod fills;
+#[cfg(test)]
+mod lifts;
+mod tokens;

@@ -24,7 +24,8 @@ returns g c =
     let scale = c .args .self .now .scale in
     let join = g .S·Scale .join scale ceiling in
     let fit = c .pre .fillable .lists-fit in
-    let law = lawful-at ceiling join (g .S·Scale .rest scale ceiling) (fit .ceiling-high) (g .S·Scale·met .lawful scale ceiling) in
+    let rest = g .S·Scale .rest scale ceiling in
+    let law = lawful-at ceiling join rest (fit .ceiling-high) (g .S·Scale·met .lawful scale ceiling) in
     let is = c .filled .ensures .are-the-filled-tables in
     let back = sym is in
     let filled = filled-tables ceiling counts own rs in
@@ -38,6 +39,6 @@ returns g c =
       every-tuning-costs-its-filled-cost =
           subst (λ (y : Tables). (t : List ℕ) → Listed-tuning counts t → cost join y t ≡ filled-cost join counts own rs t) back costs;
       no-calls-lose-a-cheap-tuning =
-          subst (λ (y : Tables). (calls : List Call) → No-cheap-tuning-lost join counts own rs (played join y calls)) back
-          (λ calls. none-lost join counts own rs filled (played join filled calls) listed costs (played-kept law filled calls sound refl .keeps));
+          subst (λ (y : Tables). (calls : List Call) → No-cheap-tuning-lost join counts own rs (played join rest y calls)) back
+          (λ calls. none-lost join counts own rs filled (played join rest filled calls) listed costs (played-kept law filled calls sound refl .keeps));
     }
