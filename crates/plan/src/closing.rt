@@ -41,7 +41,7 @@ impl<S: Scale> Plan<S> {
     // The own penalty of a candidate, joined with an amount in hand for it.
     fn weight(&self, entry: usize, candidate: usize) -> u32
         requires there { is_there self.now.tables entry candidate ≡ true }
-        ensures is_its_weight { result ≡ weight (join self.now.scale self.now.tables.limits.ceiling) self.now.tables entry candidate }
+        ensures is_its_weight { result ≡ weight (S.join self.now.scale self.now.tables.limits.ceiling) self.now.tables entry candidate }
     {
         let own = self.tables.entries.own[8 * entry + candidate];
         let held = self.tables.held_for(entry, candidate);
@@ -50,8 +50,8 @@ impl<S: Scale> Plan<S> {
 
     // Why a candidate is not closed, if it is not.
     fn close_refusal(&self, entry: usize, candidate: usize) -> Option<Refusal>
-        ensures is_the_first_refusal { result ≡ close_refusal (join self.now.scale self.now.tables.limits.ceiling) self.now.tables entry candidate }
-        ensures leaves_all { Keeps (join self.now.scale self.now.tables.limits.ceiling) self.now.tables self.now.tables }
+        ensures is_the_first_refusal { result ≡ close_refusal (S.join self.now.scale self.now.tables.limits.ceiling) self.now.tables entry candidate }
+        ensures leaves_all { Keeps (S.join self.now.scale self.now.tables.limits.ceiling) self.now.tables self.now.tables }
     {
         if !self.tables.is_open(entry, candidate) {
             return Some(Refusal::Absent);
@@ -67,23 +67,23 @@ impl<S: Scale> Plan<S> {
 
     // Closes a candidate that may be closed.
     fn shut(&mut self, entry: usize, candidate: usize)
-        requires allowed { close_refusal (join self.old.scale self.old.tables.limits.ceiling) self.old.tables entry candidate ≡ None }
+        requires allowed { close_refusal (S.join self.old.scale self.old.tables.limits.ceiling) self.old.tables entry candidate ≡ None }
         ensures closes_it { self.new.tables ≡ with_closed self.old.tables entry candidate }
         ensures keeps_its_scale { self.new.scale ≡ self.old.scale }
         ensures keeps_the_hand { self.new.tables.hand ≡ self.old.tables.hand }
-        ensures keeps_every_cheap_tuning { Keeps (join self.old.scale self.old.tables.limits.ceiling) self.old.tables self.new.tables }
+        ensures keeps_every_cheap_tuning { Keeps (S.join self.old.scale self.old.tables.limits.ceiling) self.old.tables self.new.tables }
     {
         self.tables.put_closed(entry, candidate);
     }
 
     // Closes a candidate when the floor joined with its weight is at least the bound.
     pub fn close(&mut self, entry: usize, candidate: usize) -> Result<(), Refusal>
-        ensures answers { result ≡ close_answer (join self.old.scale self.old.tables.limits.ceiling) self.old.tables entry candidate }
-        ensures leaves { self.new.tables ≡ close_after (join self.old.scale self.old.tables.limits.ceiling) self.old.tables entry candidate }
+        ensures answers { result ≡ close_answer (S.join self.old.scale self.old.tables.limits.ceiling) self.old.tables entry candidate }
+        ensures leaves { self.new.tables ≡ close_after (S.join self.old.scale self.old.tables.limits.ceiling) self.old.tables entry candidate }
         ensures refusal_changes_nothing { elim result [ Ok _ ↦ Unit {0} | Err _ ↦ self.new.tables ≡ self.old.tables ] }
         ensures keeps_its_scale { self.new.scale ≡ self.old.scale }
         ensures keeps_the_hand { self.new.tables.hand ≡ self.old.tables.hand }
-        ensures keeps_every_cheap_tuning { Keeps (join self.old.scale self.old.tables.limits.ceiling) self.old.tables self.new.tables }
+        ensures keeps_every_cheap_tuning { Keeps (S.join self.old.scale self.old.tables.limits.ceiling) self.old.tables self.new.tables }
     {
         if let Some(refusal) = self.close_refusal(entry, candidate) {
             return Err(refusal);
@@ -95,7 +95,7 @@ impl<S: Scale> Plan<S> {
     // Why the bound is not lowered, if it is not.
     fn lower_refusal(&self, bound: u32) -> Option<Refusal>
         ensures is_the_refusal { result ≡ lower_refusal self.now.tables bound }
-        ensures leaves_all { Keeps (join self.now.scale self.now.tables.limits.ceiling) self.now.tables self.now.tables }
+        ensures leaves_all { Keeps (S.join self.now.scale self.now.tables.limits.ceiling) self.now.tables self.now.tables }
     {
         if bound >= 1 && bound <= self.tables.limits.bound {
             None
@@ -109,7 +109,7 @@ impl<S: Scale> Plan<S> {
         ensures puts_it { self.new.tables ≡ with_bound self.old.tables bound }
         ensures keeps_its_scale { self.new.scale ≡ self.old.scale }
         ensures keeps_the_hand { self.new.tables.hand ≡ self.old.tables.hand }
-        ensures keeps_every_cheap_tuning { Keeps (join self.old.scale self.old.tables.limits.ceiling) self.old.tables self.new.tables }
+        ensures keeps_every_cheap_tuning { Keeps (S.join self.old.scale self.old.tables.limits.ceiling) self.old.tables self.new.tables }
     {
         self.tables.limits.bound = bound;
     }
@@ -121,7 +121,7 @@ impl<S: Scale> Plan<S> {
         ensures refusal_changes_nothing { elim result [ Ok _ ↦ Unit {0} | Err _ ↦ self.new.tables ≡ self.old.tables ] }
         ensures keeps_its_scale { self.new.scale ≡ self.old.scale }
         ensures keeps_the_hand { self.new.tables.hand ≡ self.old.tables.hand }
-        ensures keeps_every_cheap_tuning { Keeps (join self.old.scale self.old.tables.limits.ceiling) self.old.tables self.new.tables }
+        ensures keeps_every_cheap_tuning { Keeps (S.join self.old.scale self.old.tables.limits.ceiling) self.old.tables self.new.tables }
     {
         if let Some(refusal) = self.lower_refusal(bound) {
             return Err(refusal);

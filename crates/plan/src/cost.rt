@@ -15,10 +15,10 @@ impl<S: Scale> Plan<S> {
     // What an open tuning costs: the floor, its own penalties, its cell of every pair and any amount in hand for its
     // candidates, joined. Anything but an open tuning is refused.
     pub fn cost(&self, tuning: &[usize]) -> Result<u32, Refusal>
-        ensures answers { result ≡ cost_answer (join self.now.scale self.now.tables.limits.ceiling) self.now.tables tuning.now }
+        ensures answers { result ≡ cost_answer (S.join self.now.scale self.now.tables.limits.ceiling) self.now.tables tuning.now }
         ensures accepts_exactly_open_tunings { Decides (is_ok result) (OpenTuning self.now.tables tuning.now) }
-        ensures capped_sum_on_the_sum_scale { IfOk result (λ v. join self.now.scale ≡ clamped sum_join → v ≡ min self.now.tables.limits.ceiling (sum (parts self.now.tables tuning.now))) }
-        ensures largest_on_the_worst_scale { IfOk result (λ v. join self.now.scale ≡ clamped worst_join → v ≡ min self.now.tables.limits.ceiling (largest (parts self.now.tables tuning.now))) }
+        ensures capped_sum_on_the_sum_scale { IfOk result (λ v. S.join self.now.scale ≡ clamped sum_join → v ≡ min self.now.tables.limits.ceiling (sum (parts self.now.tables tuning.now))) }
+        ensures largest_on_the_worst_scale { IfOk result (λ v. S.join self.now.scale ≡ clamped worst_join → v ≡ min self.now.tables.limits.ceiling (largest (parts self.now.tables tuning.now))) }
     {
         if !self.tables.is_open_tuning(tuning) {
             return Err(Refusal::Absent);
@@ -29,9 +29,9 @@ impl<S: Scale> Plan<S> {
     // All that an open tuning pays, joined.
     fn paid(&self, tuning: &[usize]) -> u32
         requires open_tuning { OpenTuning self.now.tables tuning.now }
-        ensures is_its_cost { result ≡ cost (join self.now.scale self.now.tables.limits.ceiling) self.now.tables tuning.now }
-        ensures capped_sum_on_the_sum_scale { join self.now.scale ≡ clamped sum_join → result ≡ min self.now.tables.limits.ceiling (sum (parts self.now.tables tuning.now)) }
-        ensures largest_on_the_worst_scale { join self.now.scale ≡ clamped worst_join → result ≡ min self.now.tables.limits.ceiling (largest (parts self.now.tables tuning.now)) }
+        ensures is_its_cost { result ≡ cost (S.join self.now.scale self.now.tables.limits.ceiling) self.now.tables tuning.now }
+        ensures capped_sum_on_the_sum_scale { S.join self.now.scale ≡ clamped sum_join → result ≡ min self.now.tables.limits.ceiling (sum (parts self.now.tables tuning.now)) }
+        ensures largest_on_the_worst_scale { S.join self.now.scale ≡ clamped worst_join → result ≡ min self.now.tables.limits.ceiling (largest (parts self.now.tables tuning.now)) }
     {
         let parts = self.tables.gather(tuning);
         let number = 2 + self.tables.entries.number + self.tables.pairs.number;

@@ -28,8 +28,8 @@ impl<S: Scale> Plan<S> {
         ensures keeps_its_scale { self.new.scale ≡ self.old.scale }
         ensures accepts_exactly_what_is_fillable { Decides (is_ok result) (Fillable self.old.tables ceiling counts.now own.now pairs.now) }
         ensures its_open_tunings_are_those_of_the_lists { OnOk result ((t : List ℕ) → OpenAsListed counts.now self.new.tables t) }
-        ensures every_tuning_costs_its_filled_cost { OnOk result ((t : List ℕ) → ListedTuning counts.now t → cost (join self.new.scale ceiling) self.new.tables t ≡ filled_cost (join self.new.scale ceiling) counts.now own.now pairs.now t) }
-        ensures no_calls_lose_a_cheap_tuning { OnOk result ((calls : List Call) → NoCheapTuningLost (join self.new.scale ceiling) counts.now own.now pairs.now (played (join self.new.scale ceiling) (rest self.new.scale ceiling) self.new.tables calls)) }
+        ensures every_tuning_costs_its_filled_cost { OnOk result ((t : List ℕ) → ListedTuning counts.now t → cost (S.join self.new.scale ceiling) self.new.tables t ≡ filled_cost (S.join self.new.scale ceiling) counts.now own.now pairs.now t) }
+        ensures no_calls_lose_a_cheap_tuning { OnOk result ((calls : List Call) → NoCheapTuningLost (S.join self.new.scale ceiling) counts.now own.now pairs.now (played (S.join self.new.scale ceiling) (S.rest self.new.scale ceiling) self.new.tables calls)) }
     {
         if let Some(fault) = self.tables.fill_fault(ceiling, counts, own, pairs) {
             return Err(fault);
@@ -44,8 +44,8 @@ impl<S: Scale> Plan<S> {
         ensures are_the_filled_tables { result ≡ filled_tables ceiling counts.now own.now pairs.now }
         ensures are_sound { Sound result }
         ensures open_tunings_are_those_of_the_lists { (t : List ℕ) → OpenAsListed counts.now result t }
-        ensures every_tuning_costs_its_filled_cost { (t : List ℕ) → ListedTuning counts.now t → cost (join self.now.scale ceiling) result t ≡ filled_cost (join self.now.scale ceiling) counts.now own.now pairs.now t }
-        ensures no_calls_lose_a_cheap_tuning { (calls : List Call) → NoCheapTuningLost (join self.now.scale ceiling) counts.now own.now pairs.now (played (join self.now.scale ceiling) (rest self.now.scale ceiling) result calls) }
+        ensures every_tuning_costs_its_filled_cost { (t : List ℕ) → ListedTuning counts.now t → cost (S.join self.now.scale ceiling) result t ≡ filled_cost (S.join self.now.scale ceiling) counts.now own.now pairs.now t }
+        ensures no_calls_lose_a_cheap_tuning { (calls : List Call) → NoCheapTuningLost (S.join self.now.scale ceiling) counts.now own.now pairs.now (played (S.join self.now.scale ceiling) (S.rest self.now.scale ceiling) result calls) }
     {
         Tables::filled(ceiling, counts, own, pairs)
     }

@@ -1,5 +1,7 @@
 // A plan: entries with their candidates, the penalties of candidates and of pairs of candidates, and the limits of them
 // all. Published as a weighted constraint network.
+#![tactic(auto)]
+
 ghost use Rattle.plan.specs.Invariant.{Sound};
 
 mod check;

@@ -108,7 +108,7 @@ impl Tables {
         requires sound { Sound self.old }
         requires there { is_there self.old entry candidate ≡ true }
         requires at { is_place self.old entry place ≡ true }
-        ensures adjusts_it { self.new ≡ adjusted (by_change change (join scale.now self.old.limits.ceiling) (rest scale.now self.old.limits.ceiling) amount) self.old entry candidate place }
+        ensures adjusts_it { self.new ≡ adjusted (by_change change (S.join scale.now self.old.limits.ceiling) (S.rest scale.now self.old.limits.ceiling) amount) self.old entry candidate place }
     {
         match place {
             Place::OwnPenalty => {
@@ -132,7 +132,7 @@ impl Tables {
         requires sound { Sound self.old }
         requires there { is_there self.old entry candidate ≡ true }
         requires at { is_place self.old entry from ≡ true }
-        ensures lifts_it { self.new ≡ lifted (rest scale.now self.old.limits.ceiling) self.old from entry candidate amount }
+        ensures lifts_it { self.new ≡ lifted (S.rest scale.now self.old.limits.ceiling) self.old from entry candidate amount }
     {
         self.adjust(scale, Change::TakeOff, entry, candidate, from, amount);
         self.hand = Some(Hand {
@@ -154,7 +154,7 @@ impl Tables {
         requires sound { Sound self.old }
         requires there { is_there self.old entry candidate ≡ true }
         requires at { is_place self.old entry to ≡ true }
-        ensures sets_it_down { self.new ≡ set_down_in (join scale.now self.old.limits.ceiling) self.old entry candidate amount to }
+        ensures sets_it_down { self.new ≡ set_down_in (S.join scale.now self.old.limits.ceiling) self.old entry candidate amount to }
     {
         self.adjust(scale, Change::JoinTo, entry, candidate, to, amount);
         self.hand = None;
@@ -170,17 +170,17 @@ impl<S: Scale> Plan<S> {
         amount: u32,
     ) -> Option<Refusal>
         ensures is_the_first_refusal { result ≡ lift_refusal self.now.tables from entry candidate amount }
-        ensures leaves_all { Keeps (join self.now.scale self.now.tables.limits.ceiling) self.now.tables self.now.tables }
+        ensures leaves_all { Keeps (S.join self.now.scale self.now.tables.limits.ceiling) self.now.tables self.now.tables }
     {
         self.tables.lift_refusal(from, entry, candidate, amount)
     }
 
     fn take(&mut self, from: Place, entry: usize, candidate: usize, amount: u32)
         requires allowed { lift_refusal self.old.tables from entry candidate amount ≡ None }
-        ensures lifts_it { self.new.tables ≡ lifted (rest self.old.scale self.old.tables.limits.ceiling) self.old.tables from entry candidate amount }
+        ensures lifts_it { self.new.tables ≡ lifted (S.rest self.old.scale self.old.tables.limits.ceiling) self.old.tables from entry candidate amount }
         ensures puts_it_in_hand { is_in_hand self.new.tables.hand entry candidate amount ≡ true }
         ensures keeps_its_scale { self.new.scale ≡ self.old.scale }
-        ensures keeps_every_cheap_tuning { Keeps (join self.old.scale self.old.tables.limits.ceiling) self.old.tables self.new.tables }
+        ensures keeps_every_cheap_tuning { Keeps (S.join self.old.scale self.old.tables.limits.ceiling) self.old.tables self.new.tables }
     {
         self.tables
             .take_up(&self.scale, from, entry, candidate, amount);
@@ -196,10 +196,10 @@ impl<S: Scale> Plan<S> {
     ) -> Result<Token, Refusal>
         ensures answers { result ≡ lift_answer self.old.tables from entry candidate amount }
         ensures the_token_is_in_hand { IfOk result (λ token. is_in_hand self.new.tables.hand token.entry token.candidate token.amount ≡ true) }
-        ensures leaves { self.new.tables ≡ lift_after (rest self.old.scale self.old.tables.limits.ceiling) self.old.tables from entry candidate amount }
+        ensures leaves { self.new.tables ≡ lift_after (S.rest self.old.scale self.old.tables.limits.ceiling) self.old.tables from entry candidate amount }
         ensures refusal_changes_nothing { elim result [ Ok _ ↦ Unit {0} | Err _ ↦ self.new.tables ≡ self.old.tables ] }
         ensures keeps_its_scale { self.new.scale ≡ self.old.scale }
-        ensures keeps_every_cheap_tuning { Keeps (join self.old.scale self.old.tables.limits.ceiling) self.old.tables self.new.tables }
+        ensures keeps_every_cheap_tuning { Keeps (S.join self.old.scale self.old.tables.limits.ceiling) self.old.tables self.new.tables }
     {
         if let Some(refusal) = self.lift_refused(from, entry, candidate, amount) {
             return Err(refusal);
@@ -210,16 +210,16 @@ impl<S: Scale> Plan<S> {
 
     fn set_refused(&self, token: &Token, to: Place) -> Option<Refusal>
         ensures is_the_first_refusal { result ≡ set_refusal self.now.tables token.now.entry token.now.candidate token.now.amount to }
-        ensures leaves_all { Keeps (join self.now.scale self.now.tables.limits.ceiling) self.now.tables self.now.tables }
+        ensures leaves_all { Keeps (S.join self.now.scale self.now.tables.limits.ceiling) self.now.tables self.now.tables }
     {
         self.tables.set_refusal(token, to)
     }
 
     fn put(&mut self, entry: usize, candidate: usize, amount: u32, to: Place)
         requires allowed { set_refusal self.old.tables entry candidate amount to ≡ None }
-        ensures sets_it_down { self.new.tables ≡ set_down_in (join self.old.scale self.old.tables.limits.ceiling) self.old.tables entry candidate amount to }
+        ensures sets_it_down { self.new.tables ≡ set_down_in (S.join self.old.scale self.old.tables.limits.ceiling) self.old.tables entry candidate amount to }
         ensures keeps_its_scale { self.new.scale ≡ self.old.scale }
-        ensures keeps_every_cheap_tuning { Keeps (join self.old.scale self.old.tables.limits.ceiling) self.old.tables self.new.tables }
+        ensures keeps_every_cheap_tuning { Keeps (S.join self.old.scale self.old.tables.limits.ceiling) self.old.tables self.new.tables }
     {
         self.tables
             .put_down(&self.scale, entry, candidate, amount, to);
@@ -229,10 +229,10 @@ impl<S: Scale> Plan<S> {
     pub fn set_down(&mut self, token: Token, to: Place) -> Result<(), (Refusal, Token)>
         ensures answers { result ≡ set_answer self.old.tables token to }
         ensures a_refused_token_comes_back { elim result [ Ok _ ↦ Unit {0} | Err refused ↦ refused.1 ≡ token ] }
-        ensures leaves { self.new.tables ≡ set_after (join self.old.scale self.old.tables.limits.ceiling) self.old.tables token.entry token.candidate token.amount to }
+        ensures leaves { self.new.tables ≡ set_after (S.join self.old.scale self.old.tables.limits.ceiling) self.old.tables token.entry token.candidate token.amount to }
         ensures refusal_changes_nothing { elim result [ Ok _ ↦ Unit {0} | Err _ ↦ self.new.tables ≡ self.old.tables ] }
         ensures keeps_its_scale { self.new.scale ≡ self.old.scale }
-        ensures keeps_every_cheap_tuning { Keeps (join self.old.scale self.old.tables.limits.ceiling) self.old.tables self.new.tables }
+        ensures keeps_every_cheap_tuning { Keeps (S.join self.old.scale self.old.tables.limits.ceiling) self.old.tables self.new.tables }
     {
         if let Some(refusal) = self.set_refused(&token, to) {
             return Err((refusal, token));

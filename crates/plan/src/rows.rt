@@ -21,7 +21,7 @@ pub(crate) fn changed_number<S: Scale>(
     v: u32,
     amount: u32,
 ) -> u32
-    ensures is_changed { result ≡ by_change change (join scale.now ceiling) (rest scale.now ceiling) amount v }
+    ensures is_changed { result ≡ by_change change (S.join scale.now ceiling) (S.rest scale.now ceiling) amount v }
 {
     match change {
         Change::TakeOff => scale.rest(ceiling, v, amount),
@@ -97,7 +97,7 @@ impl Tables {
         amount: u32,
     )
         requires within { at < 1536 }
-        ensures changes_it { self.new ≡ with_cell_list self.old (changed_one is_open at (by_change change (join scale.now self.old.limits.ceiling) (rest scale.now self.old.limits.ceiling) amount) self.old.pairs.cells) }
+        ensures changes_it { self.new ≡ with_cell_list self.old (changed_one is_open at (by_change change (S.join scale.now self.old.limits.ceiling) (S.rest scale.now self.old.limits.ceiling) amount) self.old.pairs.cells) }
     {
         if is_open {
             let points = changed_number(
@@ -124,7 +124,7 @@ impl Tables {
         requires sound { Sound self.old }
         requires at { is_at self.old entry pair ≡ true }
         requires few { candidate < 8 }
-        ensures changes_it { self.new ≡ with_cell_list self.old (row_changed (by_change change (join scale.now self.old.limits.ceiling) (rest scale.now self.old.limits.ceiling) amount) self.old entry candidate pair) }
+        ensures changes_it { self.new ≡ with_cell_list self.old (row_changed (by_change change (S.join scale.now self.old.limits.ceiling) (S.rest scale.now self.old.limits.ceiling) amount) self.old entry candidate pair) }
     {
         let ahead = self.pairs.firsts[pair] == entry;
         let other = self.other_of(entry, pair);

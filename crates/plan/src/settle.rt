@@ -41,8 +41,8 @@ impl<S: Scale> Plan<S> {
     // One sweep more, unless the last changed nothing.
     fn sweep_more(&mut self, so_far: Settled) -> Settled
         requires few { so_far.sweeps < 16 }
-        ensures answers { result ≡ as_settled (one_more (join self.old.scale self.old.tables.limits.ceiling) (rest self.old.scale self.old.tables.limits.ceiling) (as_progress so_far self.old.tables)) }
-        ensures leaves { self.new.tables ≡ (one_more (join self.old.scale self.old.tables.limits.ceiling) (rest self.old.scale self.old.tables.limits.ceiling) (as_progress so_far self.old.tables)).tables }
+        ensures answers { result ≡ as_settled (one_more (S.join self.old.scale self.old.tables.limits.ceiling) (S.rest self.old.scale self.old.tables.limits.ceiling) (as_progress so_far self.old.tables)) }
+        ensures leaves { self.new.tables ≡ (one_more (S.join self.old.scale self.old.tables.limits.ceiling) (S.rest self.old.scale self.old.tables.limits.ceiling) (as_progress so_far self.old.tables)).tables }
         ensures keeps_its_scale { self.new.scale ≡ self.old.scale }
     {
         if so_far.stable {
@@ -59,8 +59,8 @@ impl<S: Scale> Plan<S> {
     // Up to a number of sweeps.
     fn sweep_on(&mut self, sweeps: u32) -> Settled
         requires few { sweeps ≤ 16 }
-        ensures answers { result ≡ as_settled (after_sweeps (join self.old.scale self.old.tables.limits.ceiling) (rest self.old.scale self.old.tables.limits.ceiling) sweeps self.old.tables) }
-        ensures leaves { self.new.tables ≡ (after_sweeps (join self.old.scale self.old.tables.limits.ceiling) (rest self.old.scale self.old.tables.limits.ceiling) sweeps self.old.tables).tables }
+        ensures answers { result ≡ as_settled (after_sweeps (S.join self.old.scale self.old.tables.limits.ceiling) (S.rest self.old.scale self.old.tables.limits.ceiling) sweeps self.old.tables) }
+        ensures leaves { self.new.tables ≡ (after_sweeps (S.join self.old.scale self.old.tables.limits.ceiling) (S.rest self.old.scale self.old.tables.limits.ceiling) sweeps self.old.tables).tables }
         ensures keeps_its_scale { self.new.scale ≡ self.old.scale }
     {
         let mut so_far = Settled {
@@ -76,19 +76,19 @@ impl<S: Scale> Plan<S> {
     // The same, with what it keeps and what it comes to.
     fn settled(&mut self, sweeps: u32) -> Settled
         requires few { sweeps ≤ 16 }
-        ensures answers { result ≡ as_settled (after_sweeps (join self.old.scale self.old.tables.limits.ceiling) (rest self.old.scale self.old.tables.limits.ceiling) sweeps self.old.tables) }
-        ensures leaves { self.new.tables ≡ (after_sweeps (join self.old.scale self.old.tables.limits.ceiling) (rest self.old.scale self.old.tables.limits.ceiling) sweeps self.old.tables).tables }
+        ensures answers { result ≡ as_settled (after_sweeps (S.join self.old.scale self.old.tables.limits.ceiling) (S.rest self.old.scale self.old.tables.limits.ceiling) sweeps self.old.tables) }
+        ensures leaves { self.new.tables ≡ (after_sweeps (S.join self.old.scale self.old.tables.limits.ceiling) (S.rest self.old.scale self.old.tables.limits.ceiling) sweeps self.old.tables).tables }
         ensures keeps_its_scale { self.new.scale ≡ self.old.scale }
         ensures keeps_the_hand { self.new.tables.hand ≡ self.old.tables.hand }
-        ensures keeps_every_cheap_tuning { Keeps (join self.old.scale self.old.tables.limits.ceiling) self.old.tables self.new.tables }
-        ensures stable_where_a_sweep_changes_nothing { result.stable ≡ true → swept_once (join self.old.scale self.old.tables.limits.ceiling) (rest self.old.scale self.old.tables.limits.ceiling) self.new.tables ≡ self.new.tables }
+        ensures keeps_every_cheap_tuning { Keeps (S.join self.old.scale self.old.tables.limits.ceiling) self.old.tables self.new.tables }
+        ensures stable_where_a_sweep_changes_nothing { result.stable ≡ true → swept_once (S.join self.old.scale self.old.tables.limits.ceiling) (S.rest self.old.scale self.old.tables.limits.ceiling) self.new.tables ≡ self.new.tables }
     {
         self.sweep_on(sweeps)
     }
 
     fn settle_refusal(&self, sweeps: u32) -> Option<Refusal>
         ensures is_the_refusal { result ≡ settle_refusal sweeps }
-        ensures leaves_all { Keeps (join self.now.scale self.now.tables.limits.ceiling) self.now.tables self.now.tables }
+        ensures leaves_all { Keeps (S.join self.now.scale self.now.tables.limits.ceiling) self.now.tables self.now.tables }
     {
         if sweeps > MOST_SWEEPS {
             Some(Refusal::TooManySweeps)
@@ -101,13 +101,13 @@ impl<S: Scale> Plan<S> {
     // moves the least of each row to the own penalty, each entry moves its least own penalty to the floor, and each
     // candidate that may be closed is closed.
     pub fn settle(&mut self, sweeps: u32) -> Result<Settled, Refusal>
-        ensures answers { result ≡ settle_answer (join self.old.scale self.old.tables.limits.ceiling) (rest self.old.scale self.old.tables.limits.ceiling) self.old.tables sweeps }
-        ensures leaves { self.new.tables ≡ settle_after (join self.old.scale self.old.tables.limits.ceiling) (rest self.old.scale self.old.tables.limits.ceiling) self.old.tables sweeps }
+        ensures answers { result ≡ settle_answer (S.join self.old.scale self.old.tables.limits.ceiling) (S.rest self.old.scale self.old.tables.limits.ceiling) self.old.tables sweeps }
+        ensures leaves { self.new.tables ≡ settle_after (S.join self.old.scale self.old.tables.limits.ceiling) (S.rest self.old.scale self.old.tables.limits.ceiling) self.old.tables sweeps }
         ensures refusal_changes_nothing { elim result [ Ok _ ↦ Unit {0} | Err _ ↦ self.new.tables ≡ self.old.tables ] }
         ensures keeps_its_scale { self.new.scale ≡ self.old.scale }
         ensures keeps_the_hand { self.new.tables.hand ≡ self.old.tables.hand }
-        ensures keeps_every_cheap_tuning { Keeps (join self.old.scale self.old.tables.limits.ceiling) self.old.tables self.new.tables }
-        ensures stable_where_a_sweep_changes_nothing { IfOk result (λ settled. settled.stable ≡ true → swept_once (join self.old.scale self.old.tables.limits.ceiling) (rest self.old.scale self.old.tables.limits.ceiling) self.new.tables ≡ self.new.tables) }
+        ensures keeps_every_cheap_tuning { Keeps (S.join self.old.scale self.old.tables.limits.ceiling) self.old.tables self.new.tables }
+        ensures stable_where_a_sweep_changes_nothing { IfOk result (λ settled. settled.stable ≡ true → swept_once (S.join self.old.scale self.old.tables.limits.ceiling) (S.rest self.old.scale self.old.tables.limits.ceiling) self.new.tables ≡ self.new.tables) }
     {
         if let Some(refusal) = self.settle_refusal(sweeps) {
             return Err(refusal);

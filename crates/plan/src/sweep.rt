@@ -33,7 +33,7 @@ impl Tables {
         requires sound { Sound self.old }
         requires there { is_there self.old entry candidate ≡ true }
         requires at { is_at self.old entry pair ≡ true }
-        ensures moves_it { self.new ≡ moved_to_own (join scale.now self.old.limits.ceiling) (rest scale.now self.old.limits.ceiling) amount entry pair candidate self.old }
+        ensures moves_it { self.new ≡ moved_to_own (S.join scale.now self.old.limits.ceiling) (S.rest scale.now self.old.limits.ceiling) amount entry pair candidate self.old }
     {
         self.adjust(
             scale,
@@ -70,7 +70,7 @@ impl Tables {
     // Takes an amount off the own penalty of a candidate, if it is open.
     fn take_off_open<S: Scale>(&mut self, scale: &S, amount: u32, entry: usize, candidate: usize)
         requires few { (entry < 16) × (candidate < 8) }
-        ensures takes_it_off { self.new ≡ with_own_list self.old (changed_one (open_at self.old entry candidate) (candidate_place entry candidate) (λ v. rest scale.now self.old.limits.ceiling v amount) self.old.entries.own) }
+        ensures takes_it_off { self.new ≡ with_own_list self.old (changed_one (open_at self.old entry candidate) (candidate_place entry candidate) (λ v. S.rest scale.now self.old.limits.ceiling v amount) self.old.entries.own) }
     {
         if self.entries.marks[8 * entry + candidate] {
             let own = self.entries.own[8 * entry + candidate];
@@ -83,7 +83,7 @@ impl Tables {
     fn take_off_own<S: Scale>(&mut self, scale: &S, amount: u32, e: usize)
         requires sound { Sound self.old }
         requires there { e < self.old.entries.number }
-        ensures takes_it_off { self.new ≡ with_own_list self.old (own_changed (λ v. rest scale.now self.old.limits.ceiling v amount) self.old e) }
+        ensures takes_it_off { self.new ≡ with_own_list self.old (own_changed (λ v. S.rest scale.now self.old.limits.ceiling v amount) self.old e) }
     {
         for c in 0..self.entries.counts[e] {
             self.take_off_open(scale, amount, e, c);
@@ -94,7 +94,7 @@ impl Tables {
     fn move_to_floor<S: Scale>(&mut self, scale: &S, amount: u32, entry: usize)
         requires sound { Sound self.old }
         requires there { entry < self.old.entries.number }
-        ensures moves_it { self.new ≡ moved_to_floor (join scale.now self.old.limits.ceiling) (rest scale.now self.old.limits.ceiling) amount entry self.old }
+        ensures moves_it { self.new ≡ moved_to_floor (S.join scale.now self.old.limits.ceiling) (S.rest scale.now self.old.limits.ceiling) amount entry self.old }
     {
         self.take_off_own(scale, amount, entry);
         self.limits.floor = scale.join(self.limits.ceiling, self.limits.floor, amount);
@@ -106,7 +106,7 @@ impl<S: Scale> Plan<S> {
     fn row_to_own(&mut self, entry: usize, pair: usize, candidate: usize)
         requires there { is_there self.old.tables entry candidate ≡ true }
         requires at { is_at self.old.tables entry pair ≡ true }
-        ensures moves_it { self.new.tables ≡ row_to_own (join self.old.scale self.old.tables.limits.ceiling) (rest self.old.scale self.old.tables.limits.ceiling) entry pair candidate self.old.tables }
+        ensures moves_it { self.new.tables ≡ row_to_own (S.join self.old.scale self.old.tables.limits.ceiling) (S.rest self.old.scale self.old.tables.limits.ceiling) entry pair candidate self.old.tables }
         ensures keeps_its_scale { self.new.scale ≡ self.old.scale }
     {
         if self.tables.entries.marks[8 * entry + candidate] {
@@ -120,7 +120,7 @@ impl<S: Scale> Plan<S> {
     fn rows_to_own(&mut self, e: usize, pair: usize)
         requires there { e < self.old.tables.entries.number }
         requires at { is_at self.old.tables e pair ≡ true }
-        ensures moves_them { self.new.tables ≡ rows_to_own (join self.old.scale self.old.tables.limits.ceiling) (rest self.old.scale self.old.tables.limits.ceiling) e pair self.old.tables }
+        ensures moves_them { self.new.tables ≡ rows_to_own (S.join self.old.scale self.old.tables.limits.ceiling) (S.rest self.old.scale self.old.tables.limits.ceiling) e pair self.old.tables }
         ensures keeps_its_scale { self.new.scale ≡ self.old.scale }
     {
         for candidate in 0..self.tables.entries.counts[e] {
@@ -131,7 +131,7 @@ impl<S: Scale> Plan<S> {
     // For the first entry of a pair and then for the second.
     fn pair_to_own(&mut self, pair: usize)
         requires there { pair < self.old.tables.pairs.number }
-        ensures moves_them { self.new.tables ≡ pair_to_own (join self.old.scale self.old.tables.limits.ceiling) (rest self.old.scale self.old.tables.limits.ceiling) pair self.old.tables }
+        ensures moves_them { self.new.tables ≡ pair_to_own (S.join self.old.scale self.old.tables.limits.ceiling) (S.rest self.old.scale self.old.tables.limits.ceiling) pair self.old.tables }
         ensures keeps_its_scale { self.new.scale ≡ self.old.scale }
     {
         let (first, second) = self.tables.entries_of(pair);
@@ -141,7 +141,7 @@ impl<S: Scale> Plan<S> {
 
     // In each pair.
     fn pairs_to_own(&mut self)
-        ensures moves_them { self.new.tables ≡ pairs_to_own (join self.old.scale self.old.tables.limits.ceiling) (rest self.old.scale self.old.tables.limits.ceiling) self.old.tables }
+        ensures moves_them { self.new.tables ≡ pairs_to_own (S.join self.old.scale self.old.tables.limits.ceiling) (S.rest self.old.scale self.old.tables.limits.ceiling) self.old.tables }
         ensures keeps_its_scale { self.new.scale ≡ self.old.scale }
     {
         for pair in 0..self.tables.pairs.number {
@@ -152,7 +152,7 @@ impl<S: Scale> Plan<S> {
     // Moves the least own penalty of the open candidates of an entry to the floor.
     fn entry_to_floor(&mut self, entry: usize)
         requires there { entry < self.old.tables.entries.number }
-        ensures moves_it { self.new.tables ≡ entry_to_floor (join self.old.scale self.old.tables.limits.ceiling) (rest self.old.scale self.old.tables.limits.ceiling) entry self.old.tables }
+        ensures moves_it { self.new.tables ≡ entry_to_floor (S.join self.old.scale self.old.tables.limits.ceiling) (S.rest self.old.scale self.old.tables.limits.ceiling) entry self.old.tables }
         ensures keeps_its_scale { self.new.scale ≡ self.old.scale }
     {
         let least = self.tables.own_least(entry);
@@ -161,7 +161,7 @@ impl<S: Scale> Plan<S> {
 
     // For each entry.
     fn entries_to_floor(&mut self)
-        ensures moves_them { self.new.tables ≡ entries_to_floor (join self.old.scale self.old.tables.limits.ceiling) (rest self.old.scale self.old.tables.limits.ceiling) self.old.tables }
+        ensures moves_them { self.new.tables ≡ entries_to_floor (S.join self.old.scale self.old.tables.limits.ceiling) (S.rest self.old.scale self.old.tables.limits.ceiling) self.old.tables }
         ensures keeps_its_scale { self.new.scale ≡ self.old.scale }
     {
         for e in 0..self.tables.entries.number {
@@ -172,7 +172,7 @@ impl<S: Scale> Plan<S> {
     // Closes each candidate of an entry that may be closed.
     fn close_entry(&mut self, e: usize)
         requires there { e < self.old.tables.entries.number }
-        ensures closes_them { self.new.tables ≡ entry_closed (join self.old.scale self.old.tables.limits.ceiling) e self.old.tables }
+        ensures closes_them { self.new.tables ≡ entry_closed (S.join self.old.scale self.old.tables.limits.ceiling) e self.old.tables }
         ensures keeps_its_scale { self.new.scale ≡ self.old.scale }
     {
         for candidate in 0..self.tables.entries.counts[e] {
@@ -182,7 +182,7 @@ impl<S: Scale> Plan<S> {
 
     // Of each entry.
     fn close_entries(&mut self)
-        ensures closes_them { self.new.tables ≡ entries_closed (join self.old.scale self.old.tables.limits.ceiling) self.old.tables }
+        ensures closes_them { self.new.tables ≡ entries_closed (S.join self.old.scale self.old.tables.limits.ceiling) self.old.tables }
         ensures keeps_its_scale { self.new.scale ≡ self.old.scale }
     {
         for e in 0..self.tables.entries.number {
@@ -192,7 +192,7 @@ impl<S: Scale> Plan<S> {
 
     // One sweep.
     pub(crate) fn sweep(&mut self)
-        ensures sweeps { self.new.tables ≡ swept_once (join self.old.scale self.old.tables.limits.ceiling) (rest self.old.scale self.old.tables.limits.ceiling) self.old.tables }
+        ensures sweeps { self.new.tables ≡ swept_once (S.join self.old.scale self.old.tables.limits.ceiling) (S.rest self.old.scale self.old.tables.limits.ceiling) self.old.tables }
         ensures keeps_its_scale { self.new.scale ≡ self.old.scale }
     {
         self.pairs_to_own();

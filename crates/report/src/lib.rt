@@ -1,4 +1,6 @@
 // What the program answers: text in, text out.
+#![tactic(auto)]
+
 pub mod answer;
 mod fields;
 mod plans;

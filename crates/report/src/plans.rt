@@ -21,7 +21,7 @@ pub struct Paid {
 }
 
 fn pay<S: Scale>(plan: &Plan<S>, a: usize, b: usize) -> Option<Paid>
-    ensures is_what_it_pays { result ≡ paid_by (join plan.now.scale plan.now.tables.limits.ceiling) plan.now.tables a b }
+    ensures is_what_it_pays { result ≡ paid_by (S.join plan.now.scale plan.now.tables.limits.ceiling) plan.now.tables a b }
 {
     let floor = plan.floor();
     let first = plan.own(0, a)?;
@@ -71,7 +71,7 @@ fn push_tuning<S: Scale>(
     a: usize,
     b: usize,
 ) -> Result<(), AllocError>
-    ensures adds_its_line { OnOk result (string_bytes out.new ≡ string_bytes out.old ++ paid_line name.now a b (paid_by (join plan.now.scale plan.now.tables.limits.ceiling) plan.now.tables a b)) }
+    ensures adds_its_line { OnOk result (string_bytes out.new ≡ string_bytes out.old ++ paid_line name.now a b (paid_by (S.join plan.now.scale plan.now.tables.limits.ceiling) plan.now.tables a b)) }
 {
     match pay(plan, a, b) {
         Some(paid) => {
@@ -91,7 +91,7 @@ fn push_tunings<S: Scale>(
     name: &str,
     plan: &Plan<S>,
 ) -> Result<(), AllocError>
-    ensures adds_the_lines { OnOk result (string_bytes out.new ≡ tuning_lines name.now (join plan.now.scale plan.now.tables.limits.ceiling) plan.now.tables (string_bytes out.old)) }
+    ensures adds_the_lines { OnOk result (string_bytes out.new ≡ tuning_lines name.now (S.join plan.now.scale plan.now.tables.limits.ceiling) plan.now.tables (string_bytes out.old)) }
 {
     push_tuning(heap, out, name, plan, 0, 0)?;
     push_tuning(heap, out, name, plan, 0, 1)?;

@@ -31,7 +31,7 @@ fn push_running_lines<S: Scale>(
     ceiling: u32,
     penalties: &[u32],
 ) -> Result<(), AllocError>
-    ensures adds_the_lines { OnOk result (string_bytes out.new ≡ string_bytes out.old ++ running_lines name.now (join scale.now ceiling) 0 penalties.now) }
+    ensures adds_the_lines { OnOk result (string_bytes out.new ≡ string_bytes out.old ++ running_lines name.now (S.join scale.now ceiling) 0 penalties.now) }
 {
     let mut total: u32 = 0;
     for penalty in penalties {

@@ -1,5 +1,7 @@
 // How penalties join. A scale is a trait with its laws; the sum and the worst scale keep them, and the joined penalty
 // of a list is one function for every scale.
+#![tactic(auto)]
+
 ghost use Rattle.std.specs.Prelude.{◌≡◌, ℕ};
 ghost use Rattle.scale.specs.Ceilings.{effective};
 ghost use Rattle.scale.specs.Laws.{Clamps, Lawful};

@@ -1,4 +1,6 @@
 // Compared runs: what calls answer on worked cases.
+#![tactic(auto)]
+
 #[cfg(test)]
 mod closings;
 #[cfg(test)]
