@@ -1,12 +1,12 @@
 -- An amount that moves between places keeps the cost of every open tuning: the law of transfer, put to use.
-use Rattle.std.proofs.Common.{◌≡◌, ℕ, ◌+◌, ◌<◌, ◌≤◌, Bool, true, false, cond, ◌||◌, eqb, ltb, List, ◌∷◌, ◌++◌, map, length, get_or, sym, refl, ap, ◌∙◌, ⊎_elim, arith}
+use Rattle.std.proofs.Common.{◌≡◌, ℕ, ◌<◌, ◌≤◌, Bool, true, false, cond, ◌||◌, eqb, ltb, List, ◌∷◌, ◌++◌, map, length, get_or, sym, refl, ap, ◌∙◌, ⊎_elim, arith}
 use Rattle.std.specs.List.{range_with_len}
 use Rattle.std.proofs.lemmas.List.{get_or-set_same, get_or-set_other}
 use Rattle.std.proofs.lemmas.Bool.{cases_Bool, both_ways, and_parts, ltb-true, eqb-true, eq-eqb, cond-true, cond-false}
 use Rattle.std.proofs.lemmas.Bool.Decides.{nat_tests}
-use Rattle.scale.specs.Joins.{joined, joined_over}
+use Rattle.scale.specs.Joins.{joined_over}
 use Rattle.scale.specs.Laws.{Lawful}
-use Rattle.scale.proofs.JoinedLists.{joined_cons, joined_append, joined_bounded, transfer}
+use Rattle.scale.proofs.JoinedLists.{joined_cons, joined_append, joined_bounded}
 use Rattle.scale.proofs.JoinedRanges.{over_same, over_at}
 use Rattle.plan.specs.declared.place.Place.TheVariants.{OwnPenalty, Row}
 use Rattle.plan.specs.declared.tables.Tables.{Tables}

@@ -1,5 +1,5 @@
 -- Each pair is listed once, and each record's pair is listed.
-use Rattle.std.proofs.Common.{◌≡◌, ℕ, zero, suc, ◌+◌, ◌<◌, true, false, cond, eqb, List, [], ◌∷◌, ◌++◌, length, get_or, refl, ⊎_elim, arith}
+use Rattle.std.proofs.Common.{◌≡◌, ℕ, zero, suc, ◌<◌, true, false, cond, eqb, List, [], ◌∷◌, ◌++◌, length, get_or, refl, ⊎_elim, arith}
 use Rattle.std.proofs.lemmas.List.{length_push}
 use Rattle.std.proofs.lemmas.Bool.{false≢true, cases_Bool, cases_eq}
 use Rattle.std.proofs.lemmas.Bool.Decides.{nat_tests}
@@ -27,24 +27,32 @@ second_push (p ∷ ps) e o (suc q) = let rec = second_push ps e o q in grind (ar
 
 module _ (rs : List PairRecord) where
   -- what no record is of is not listed
-  pub unmet : (k e o q : ℕ) → pair_met rs k e o ≡ false → q < length (pairs_of rs k) → first_in (pairs_of rs k) q ≡ e → second_in (pairs_of rs k) q ≡ o → ⊥
-  unmet zero e o q m h f s = omega arith
-  unmet (suc k) e o q m h f s =
+  abbrev pub Unlisted : ℕ → ℕ → ℕ → ℕ → Type 0
+  Unlisted k e o q = pair_met rs k e o ≡ false → q < length (pairs_of rs k) → first_in (pairs_of rs k) q ≡ e → second_in (pairs_of rs k) q ≡ o → ⊥
+
+  -- nor one record later
+  unmet_more : (k e o q : ℕ) → Unlisted k e o q → Unlisted (suc k) e o q
+  unmet_more k e o q rec m h f s =
       let ps = pairs_of rs k in
       let r = at rs k in
-      let rec = unmet k e o q in
       let fp = first_push ps r.entry r.other q in
       let sp = second_push ps r.entry r.other q in
       let lp = length_push ps (r.entry, r.other) in
       grind (arith, nat_tests)
 
+  pub unmet : (k e o q : ℕ) → Unlisted k e o q
+  unmet zero e o q = λ m h f s. omega arith
+  unmet (suc k) e o q = unmet_more k e o q (unmet k e o q)
+
   -- no pair is listed twice
-  pub apart : (k i j : ℕ) → i < length (pairs_of rs k) → j < length (pairs_of rs k) → first_in (pairs_of rs k) i ≡ first_in (pairs_of rs k) j → second_in (pairs_of rs k) i ≡ second_in (pairs_of rs k) j → i ≡ j
-  apart zero i j hi hj f s = absurd (omega arith)
-  apart (suc k) i j hi hj f s =
+  abbrev pub Apart : ℕ → ℕ → ℕ → Type 0
+  Apart k i j = i < length (pairs_of rs k) → j < length (pairs_of rs k) → first_in (pairs_of rs k) i ≡ first_in (pairs_of rs k) j → second_in (pairs_of rs k) i ≡ second_in (pairs_of rs k) j → i ≡ j
+
+  -- nor one record later
+  apart_more : (k i j : ℕ) → Apart k i j → Apart (suc k) i j
+  apart_more k i j rec hi hj f s =
       let ps = pairs_of rs k in
       let r = at rs k in
-      let rec = apart k i j in
       let ui = unmet k r.entry r.other i in
       let uj = unmet k r.entry r.other j in
       let fi = first_push ps r.entry r.other i in
@@ -53,6 +61,10 @@ module _ (rs : List PairRecord) where
       let sj = second_push ps r.entry r.other j in
       let lp = length_push ps (r.entry, r.other) in
       grind (arith, nat_tests)
+
+  pub apart : (k i j : ℕ) → Apart k i j
+  apart zero i j = λ hi hj f s. absurd (omega arith)
+  apart (suc k) i j = apart_more k i j (apart k i j)
 
   -- a pair that a record is of is listed
   pub record Listed (k e o : ℕ) : Type 0 where

@@ -1,5 +1,5 @@
 -- No list of calls loses a cheap tuning.
-use Rattle.std.proofs.Common.{◌≡◌, ℕ, List, [], ◌∷◌, refl, ◌∙◌, arith}
+use Rattle.std.proofs.Common.{◌≡◌, ℕ, List, [], ◌∷◌, ◌∙◌, arith}
 use Rattle.scale.specs.Laws.{Lawful}
 use Rattle.plan.specs.declared.records.PairRecord.{PairRecord}
 use Rattle.plan.specs.declared.tables.Tables.{Tables}

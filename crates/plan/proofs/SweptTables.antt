@@ -1,7 +1,6 @@
 -- A sweep keeps every cheap tuning, leaves sound tables, and changes nothing but the floor, own penalties, cells and marks.
-use Rattle.std.proofs.Common.{◌≡◌, ℕ, zero, suc, ◌+◌, ◌<◌, ◌≤◌, Bool, true, false, cond, not, ◌&&◌, ◌||◌, eqb, ltb, List, [], ◌∷◌, length, get_or, Some, None, Decides, Option, sym, refl, ap, ◌∙◌, ⊎_elim, arith, rules}
-use Rattle.std.proofs.lemmas.Slice.Eq.{compares_Decides}
-use Rattle.std.proofs.lemmas.Bool.{cases_Bool, both_ways, and_parts, and_from, lt-ltb, eqb-true, eq-eqb, cond-true, cond-false, or_left, or_right}
+use Rattle.std.proofs.Common.{◌≡◌, ℕ, zero, suc, ◌<◌, ◌≤◌, Bool, true, false, cond, ◌&&◌, ◌||◌, eqb, ltb, List, get_or, Some, None, Option, sym, refl, ap, ◌∙◌, arith}
+use Rattle.std.proofs.lemmas.Bool.{and_parts, and_from, lt-ltb, eq-eqb, or_left, or_right}
 use Rattle.scale.specs.Laws.{Lawful}
 use Rattle.scale.proofs.JoinedLists.{front_swap}
 use Rattle.plan.specs.declared.refusals.Refusal.{Refusal}
@@ -15,14 +14,14 @@ use Rattle.plan.specs.Keeping.{Keeps}
 use Rattle.plan.specs.Layout.{candidate_place, count_of, own_of, open_at, first_of, second_of, is_there}
 use Rattle.plan.specs.Lifting.{adjusted}
 use Rattle.plan.specs.Rows.{is_at, row_least}
-use Rattle.plan.specs.Settling.{same_numbers, same_marks, unchanged, Progress, not_begun, swept, unless_stable, one_more, after_sweeps}
-use Rattle.plan.specs.Sweeps.{in_turn, moved_to_own, row_to_own, rows_to_own, pair_to_own, pairs_to_own, own_least, moved_to_floor, entry_to_floor, entries_to_floor, entry_closed, entries_closed, sweep}
+use Rattle.plan.specs.Settling.{Progress, swept, unless_stable, after_sweeps}
+use Rattle.plan.specs.Sweeps.{in_turn, moved_to_own, row_to_own, rows_to_own, pair_to_own, pairs_to_own, own_least, moved_to_floor, entry_to_floor, entries_to_floor, entry_closed, sweep}
 use Rattle.plan.specs.Tunings.{OpenTuning}
 use Rattle.plan.proofs.Adjusting.{length_changed, changed_low, changed_other, changed_at, least_at_most}
-use Rattle.plan.proofs.Keepings.{Kept, keeps_refl, keeps_trans, unless_kept, close_kept}
+use Rattle.plan.proofs.Keepings.{keeps_refl, keeps_trans, unless_kept, close_kept}
 use Rattle.plan.proofs.Lifts.{Touched, owns, cells, cost_in_three, over_lifted}
 use Rattle.plan.proofs.OpenTunings.{tuning_from_open}
-use Rattle.plan.proofs.Transfers.{share, body, adjusted_sound, body_lifted, body_set}
+use Rattle.plan.proofs.Transfers.{body, adjusted_sound, body_lifted, body_set}
 
 -- what no sweep changes
 pub record Frame : Type 0 where

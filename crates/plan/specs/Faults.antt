@@ -1,5 +1,5 @@
 -- Why lists are refused, and where: the first fault in the order of the checks.
-use Rattle.std.specs.Prelude.{ℕ, zero, suc, Bool, cond, not, ◌&&◌, ◌||◌, List, length, Some, None, sum, Option, ◌==◌, nat_le, nat_lt, slice_index}
+use Rattle.std.specs.Prelude.{ℕ, zero, suc, Bool, cond, ◌&&◌, ◌||◌, List, length, Some, None, sum, Option, ◌==◌, nat_le, nat_lt, slice_index}
 use Rattle.scale.specs.Ceilings.{highest}
 use Rattle.plan.specs.declared.records.PairRecord.{PairRecord}
 use Rattle.plan.specs.declared.refusals.FillFault.{FillFault}

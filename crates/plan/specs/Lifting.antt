@@ -1,5 +1,5 @@
 -- Lifting an amount, and setting it down.
-use Rattle.std.specs.Prelude.{ℕ, Bool, true, false, cond, ◌&&◌, List, set, is_some, Some, None, Ok, Err, Option, Result, ◌==◌, nat_le, slice_set}
+use Rattle.std.specs.Prelude.{ℕ, Bool, true, false, cond, ◌&&◌, List, is_some, Some, None, Ok, Err, Option, Result, ◌==◌, nat_le, slice_set}
 use Rattle.plan.specs.declared.place.Place.{Place}
 use Rattle.plan.specs.declared.place.Place.TheVariants.{OwnPenalty, Row}
 use Rattle.plan.specs.declared.rows.Change.{Change}

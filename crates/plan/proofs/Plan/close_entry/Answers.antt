@@ -1,4 +1,4 @@
-use Rattle.std.proofs.Common.{ℕ, refl, ap, ◌∙◌, arith}
+use Rattle.std.proofs.Common.{ℕ, refl, ap, ◌∙◌}
 use Rattle.plan.specs.Closing.{close_after}
 use Rattle.plan.proofs.Laws.{laws_of}
 use Rattle.plan.proofs.SweptTables.{Frame, frame, entry_closed_swept}

@@ -5,8 +5,8 @@ use Rattle.plan.proofs.SweptTables.{Frame, frame, entries_to_floor_swept}
 use Rattle.plan.proofs.Turns.{next_turn}
 use Rattle.plan.proofs.Plan.entries_to_floor.Goals as goal
 
-pub entry-to-floor-requires : goal.entry-to-floor-requires
-entry-to-floor-requires g c =
+pub entry_to_floor-requires : goal.entry_to_floor-requires
+entry_to_floor-requires g c =
     let x = c.args.self.now.tables in
     let sound = c.args.self.now.sound in
     let scale = c.args.self.now.scale in

@@ -17,7 +17,7 @@ returns g c =
     let number = 2 + x.entries.number + x.pairs.number in
     let paid : take (number - 0) c.gather-parts.result ≡ parts x t = rw sub-zero c.gather-parts.ensures.begins_with_the_parts in
     let counts : effective x.limits.ceiling ≡ x.limits.ceiling = omega (arith, c.args.self.now.sound.2.2) in
-    let total = c.joined-penalty.ensures in
+    let total = c.joined_penalty.ensures in
     record {
       is_its_cost = total.joins_all_from_zero ∙ ap (joined (g.S.Scale.join c.args.self.now.scale x.limits.ceiling)) paid;
       capped_sum_on_the_sum_scale = λ e. total.capped_sum_on_the_sum_scale e ∙ ap (λ (ps : List ℕ). min (effective x.limits.ceiling) (sum ps)) paid ∙ ap (λ (m : ℕ). min m (sum (parts x t))) counts;

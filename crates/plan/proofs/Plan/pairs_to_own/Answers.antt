@@ -5,8 +5,8 @@ use Rattle.plan.proofs.SweptTables.{Frame, frame, pairs_to_own_swept}
 use Rattle.plan.proofs.Turns.{next_turn}
 use Rattle.plan.proofs.Plan.pairs_to_own.Goals as goal
 
-pub pair-to-own-requires : goal.pair-to-own-requires
-pair-to-own-requires g c =
+pub pair_to_own-requires : goal.pair_to_own-requires
+pair_to_own-requires g c =
     let x = c.args.self.now.tables in
     let sound = c.args.self.now.sound in
     let scale = c.args.self.now.scale in

@@ -5,8 +5,8 @@ use Rattle.plan.proofs.SweptTables.{Frame, frame, there_as_before, at_as_before,
 use Rattle.plan.proofs.Turns.{next_turn}
 use Rattle.plan.proofs.Plan.rows_to_own.Goals as goal
 
-pub row-to-own-requires : goal.row-to-own-requires
-row-to-own-requires g c =
+pub row_to_own-requires : goal.row_to_own-requires
+row_to_own-requires g c =
     let x = c.args.self.now.tables in
     let sound = c.args.self.now.sound in
     let scale = c.args.self.now.scale in

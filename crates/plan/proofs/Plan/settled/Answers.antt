@@ -17,12 +17,12 @@ returns g c =
     let n = c.args.sweeps in
     let join = g.S.Scale.join scale x.limits.ceiling in
     let rest = g.S.Scale.rest scale x.limits.ceiling in
-    let answers = c.sweep-on.ensures.answers in
-    let leaves = c.sweep-on.ensures.leaves in
+    let answers = c.sweep_on.ensures.answers in
+    let leaves = c.sweep_on.ensures.leaves in
     record {
       answers = answers;
       leaves = leaves;
-      keeps_its_scale = c.sweep-on.ensures.keeps_its_scale;
+      keeps_its_scale = c.sweep_on.ensures.keeps_its_scale;
       keeps_the_hand = ap (λ (y : Tables). y.hand) leaves ∙ ap (λ (f : Frame). f.hand) (after_sweeps_swept law x sound refl n).same_frame;
       keeps_every_cheap_tuning = subst (λ (y : Tables). Keeps join x y) (sym leaves) (after_sweeps_swept law x sound refl n).keeps;
       stable_where_a_sweep_changes_nothing = λ stable.

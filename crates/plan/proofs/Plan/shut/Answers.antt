@@ -13,7 +13,7 @@ returns g c =
     let ceiling = x.limits.ceiling in
     let join = g.S.Scale.join scale ceiling in
     let law = lawful_at ceiling join (g.S.Scale.rest scale ceiling) sound.2.2 (g.met.S.Scale.lawful scale ceiling) in
-    let closes = c.put-closed.ensures.closes_it in
+    let closes = c.put_closed.ensures.closes_it in
     record {
       closes_it = closes;
       keeps_its_scale = refl;

@@ -6,8 +6,8 @@ use Rattle.plan.specs.Tunings.{OpenTuning}
 use Rattle.plan.proofs.NewPlans.{new_sound, new_tuning}
 use Rattle.plan.proofs.Plan.started.Goals as goal
 
-pub invariant-of-result : goal.invariant-of-result
-invariant-of-result g c = (subst Sound (sym c.requires.holds_nothing) new_sound, tt)
+pub invariant_of-result : goal.invariant_of-result
+invariant_of-result g c = record { sound = subst Sound (sym c.requires.holds_nothing) new_sound }
 
 pub returns : goal.returns
 returns g c = record {

@@ -2,7 +2,7 @@ use Rattle.std.proofs.Common.{ℕ, refl, ap, ◌∙◌, arith}
 use Rattle.plan.specs.declared.tables.Tables.{Tables}
 use Rattle.plan.specs.Sweeps.{pairs_to_own, entries_to_floor, entries_closed}
 use Rattle.plan.proofs.Laws.{laws_of}
-use Rattle.plan.proofs.SweptTables.{Frame, frame, pairs_to_own_swept, entries_to_floor_swept}
+use Rattle.plan.proofs.SweptTables.{Frame, pairs_to_own_swept, entries_to_floor_swept}
 use Rattle.plan.proofs.Turns.{next_step}
 use Rattle.plan.proofs.Plan.sweep.Goals as goal
 
@@ -25,7 +25,7 @@ returns g c =
     let scale_stays = c.entries_to_floor.ensures.keeps_its_scale ∙ c.pairs_to_own.ensures.keeps_its_scale in
     record {
       sweeps =
-          next_step (λ s (d : ℕ). entries_closed (g.S.Scale.join s d)) scale c.entries_to_floor.new.self.scale ceiling _ c.entries_to_floor.new.self.tables c.close-entries.new.self.tables
-          floored scale_stays (ap (λ (t : Tables). t.limits.ceiling) floored ∙ top_z) c.close-entries.ensures.closes_them;
-      keeps_its_scale = c.close-entries.ensures.keeps_its_scale ∙ scale_stays;
+          next_step (λ s (d : ℕ). entries_closed (g.S.Scale.join s d)) scale c.entries_to_floor.new.self.scale ceiling _ c.entries_to_floor.new.self.tables c.close_entries.new.self.tables
+          floored scale_stays (ap (λ (t : Tables). t.limits.ceiling) floored ∙ top_z) c.close_entries.ensures.closes_them;
+      keeps_its_scale = c.close_entries.ensures.keeps_its_scale ∙ scale_stays;
     }

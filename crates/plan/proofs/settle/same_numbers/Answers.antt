@@ -1,4 +1,3 @@
-use Rattle.std.proofs.Common.{rules}
 use Rattle.std.proofs.lemmas.Slice.Eq.{slice_eq-Decides}
 use Rattle.plan.proofs.StableTables.{numbers_decided, both_decide}
 use Rattle.plan.proofs.settle.same_numbers.Goals as goal
