@@ -107,7 +107,7 @@ fn push_plan<S: Scale + Drop>(
     scale: S,
     ceiling: u32,
 ) -> Result<(), AllocError>
-    ensures adds_the_lines { OnOk result (string_bytes out.new ≡ plan_lines name.now (join scale) ceiling (string_bytes out.old)) }
+    ensures adds_the_lines { OnOk result (string_bytes out.new ≡ plan_lines name.now (S.join scale) ceiling (string_bytes out.old)) }
 {
     let pairs = [PairRecord {
         entry: 0,

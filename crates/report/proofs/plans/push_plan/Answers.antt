@@ -14,5 +14,5 @@ returns-in-Ok g c =
     c.in-Ok.ensures.answers c.fill.ensures.leaves in
     let all = lines ∙ ap (λ s. tuning_lines name (join s plan.tables.limits.ceiling) plan.tables before) (sym same) in
     record {
-      adds_the_lines = subst (λ (zs : List ℕ). IfOk c.push-tunings.result (λ _. string_bytes c.push-tunings.new.out ≡ zs)) (sym all) c.push-tunings.ensures.adds_the_lines;
+      adds_the_lines = subst (λ (zs : List ℕ). IfOk c.push_tunings.result (λ _. string_bytes c.push_tunings.new.out ≡ zs)) (sym all) c.push_tunings.ensures.adds_the_lines;
     }

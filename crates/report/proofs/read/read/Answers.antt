@@ -3,10 +3,10 @@ use Rattle.std.proofs.lemmas.Result.{err_from_is_err_and}
 use Rattle.report.proofs.Lines.{ceiling_refused, ceiling_read}
 use Rattle.report.proofs.read.read.Goals as goal
 
-pub returns-in-err-ceiling : goal.returns-in-err-ceiling
-returns-in-err-ceiling c =
-    let out = err_from_is_err_and c.from-residual.result c.from-residual.ensures.1 in
-    let said = c.in-err-ceiling.ensures.is_the_ranged_value in
+pub returns-in_err-ceiling : goal.returns-in_err-ceiling
+returns-in_err-ceiling c =
+    let out = err_from_is_err_and c.from_residual.result c.from_residual.ensures.1 in
+    let said = c.in_err-ceiling.ensures.is_the_ranged_value in
     record {
       is_what_the_text_says =
           rw (out.1, out.2) (ceiling_refused c.args.text.now c.in-Some.line.now c.in-Some.lines.now (omega arith) c.in-Some.ensures.first_piece_and_rest _ said);
@@ -14,9 +14,9 @@ returns-in-err-ceiling c =
 
 pub returns : goal.returns
 returns c =
-    let said = c.in-ok-ceiling.ensures.is_the_ranged_value in
+    let said = c.in_ok-ceiling.ensures.is_the_ranged_value in
     record {
       is_what_the_text_says =
           rw (ceiling_read c.args.text.now c.in-Some.line.now c.in-Some.lines.now (omega arith) c.in-Some.ensures.first_piece_and_rest _ said)
-          c.read-penalties.ensures.is_what_the_lines_say;
+          c.read_penalties.ensures.is_what_the_lines_say;
     }

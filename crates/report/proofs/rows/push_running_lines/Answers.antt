@@ -4,7 +4,7 @@ use Rattle.report.proofs.rows.push_running_lines.Goals as goal
 pub loop-penalty-preserved : goal.loop-penalty-preserved
 loop-penalty-preserved g c =
     running_more c.args.name.now (g.S.Scale.join c.args.scale.now c.args.ceiling) c.args.penalties.now _ _ _ c.loop-penalty.total c.loop-penalty.invariant
-    _ _ c.loop-penalty-test.true c.join-total.ensures.is_the_join c.in-ok-push-running-line.ensures.adds_the_line
+    _ _ c.loop-penalty-test.true c.join-total.ensures.is_the_join c.in_ok-push_running_line.ensures.adds_the_line
 
 pub returns : goal.returns
 returns g c = record {
