@@ -1,5 +1,5 @@
 // Lifting amounts and setting them down.
-ghost use Rattle.std.specs.Prelude.{◌≡◌, true, set, IfOk, None, Ok, Err, slice_set};
+ghost use Rattle.std.specs.Prelude.{◌≡◌, true, IfOk, None, Ok, Err, slice_set};
 ghost use Rattle.plan.specs.Invariant.{Sound};
 ghost use Rattle.plan.specs.Keeping.{Keeps};
 ghost use Rattle.plan.specs.Layout.{candidate_place, is_there};

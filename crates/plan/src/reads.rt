@@ -110,6 +110,7 @@ impl<S> Plan<S> {
     {
         self.tables.hand
     }
+
     // The tables, lent to be read.
     pub fn tables(&self) -> &Tables
         ensures are_its_tables { result.now ≡ self.now.tables }
