@@ -32,17 +32,20 @@ pub record Progress : Type 0 where
   pub stable : Bool
   pub tables : Tables
 
+-- before the first sweep
 abbrev pub not_begun : Tables → Progress
 not_begun x = record { made = 0; stable = false; tables = x }
 
+-- one sweep more
 abbrev pub swept : (ℕ → ℕ → ℕ) → (ℕ → ℕ → ℕ) → Progress → Progress
 swept join rest s = record { made = s.made + 1; stable = unchanged s.tables (sweep join rest s.tables); tables = sweep join rest s.tables }
 
--- one sweep more, unless the last changed nothing
+-- more is done, unless the last sweep changed nothing
 abbrev pub unless_stable : Bool → Progress → (Progress → Progress) → Progress
 unless_stable true s more = s
 unless_stable false s more = more s
 
+-- one sweep more, unless the last changed nothing
 abbrev pub one_more : (ℕ → ℕ → ℕ) → (ℕ → ℕ → ℕ) → Progress → Progress
 one_more join rest s = unless_stable s.stable s (swept join rest)
 
@@ -55,19 +58,20 @@ after_sweeps join rest (suc n) x = one_more join rest (after_sweeps join rest n 
 abbrev pub settle_refusal : ℕ → Option Refusal
 settle_refusal n = cond (nat_le n 16) None (Some TooManySweeps)
 
--- how far it came, as it is answered, and with the tables
+-- what settling answers of it
 abbrev pub as_settled : Progress → Settled
 as_settled s = record { sweeps = s.made; stable = s.stable }
 
+-- such an answer, with the tables that are left
 abbrev pub as_progress : Settled → Tables → Progress
 as_progress s x = record { made = s.sweeps; stable = s.stable; tables = x }
 
--- what is answered, and what is left
-
+-- the answer to a refused settling, or to one that was made
 abbrev pub settled_unless : Option Refusal → Settled → Result Settled Refusal
 settled_unless None settled = Ok settled
 settled_unless (Some why) settled = Err why
 
+-- what settling answers, and what it leaves
 abbrev pub settle_answer : (ℕ → ℕ → ℕ) → (ℕ → ℕ → ℕ) → Tables → ℕ → Result Settled Refusal
 settle_answer join rest x n = settled_unless (settle_refusal n) (as_settled (after_sweeps join rest n x))
 

@@ -17,17 +17,19 @@ in_turn step (suc k) x = step k (in_turn step k x)
 abbrev pub moved_to_own : (ℕ → ℕ → ℕ) → (ℕ → ℕ → ℕ) → ℕ → ℕ → ℕ → ℕ → Tables → Tables
 moved_to_own join rest m e p c x = adjusted (λ v. join v m) (adjusted (λ v. rest v m) x e c (Row p)) e c OwnPenalty
 
--- the row's least is, if the candidate is open
+-- where the candidate c of the entry e is open, the least of its row in the pair p is so moved
 abbrev pub row_to_own : (ℕ → ℕ → ℕ) → (ℕ → ℕ → ℕ) → ℕ → ℕ → ℕ → Tables → Tables
 row_to_own join rest e p c x = cond (open_at x e c) (moved_to_own join rest (row_least x e c p) e p c x) x
 
--- it is for each candidate of the entry e in the pair p; of both entries of the pair; in each pair
+-- for each candidate of the entry e in turn
 abbrev pub rows_to_own : (ℕ → ℕ → ℕ) → (ℕ → ℕ → ℕ) → ℕ → ℕ → Tables → Tables
 rows_to_own join rest e p x = in_turn (row_to_own join rest e p) (count_of x e) x
 
+-- for the first entry of the pair p, and then for the second
 abbrev pub pair_to_own : (ℕ → ℕ → ℕ) → (ℕ → ℕ → ℕ) → ℕ → Tables → Tables
 pair_to_own join rest p x = rows_to_own join rest (second_of x p) p (rows_to_own join rest (first_of x p) p x)
 
+-- for each pair in order
 abbrev pub pairs_to_own : (ℕ → ℕ → ℕ) → (ℕ → ℕ → ℕ) → Tables → Tables
 pairs_to_own join rest x = in_turn (pair_to_own join rest) x.pairs.number x
 
@@ -35,7 +37,7 @@ pairs_to_own join rest x = in_turn (pair_to_own join rest) x.pairs.number x
 abbrev pub own_least : Tables → ℕ → ℕ
 own_least x e = unwrap_or (least_where (open_at x e) (own_of x e) (count_of x e)) 0
 
--- the own penalties of the open candidates of the entry e, with g of each
+-- the list of own penalties, with g of each that is of an open candidate of the entry e
 abbrev pub own_changed : (ℕ → ℕ) → Tables → ℕ → List ℕ
 own_changed g x e = changed (open_at x e) (candidate_place e) g (count_of x e) x.entries.own
 
@@ -43,24 +45,26 @@ own_changed g x e = changed (open_at x e) (candidate_place e) g (count_of x e) x
 abbrev pub with_floor : Tables → ℕ → Tables
 with_floor x floor = record { entries = x.entries; pairs = x.pairs; limits = record { floor = floor; ceiling = x.limits.ceiling; bound = x.limits.bound }; hand = x.hand }
 
--- the amount m is taken off each of them, and joined to the floor
+-- the amount m is taken off each own penalty of an open candidate of the entry e, and joined to the floor
 abbrev pub moved_to_floor : (ℕ → ℕ → ℕ) → (ℕ → ℕ → ℕ) → ℕ → ℕ → Tables → Tables
 moved_to_floor join rest m e x = with_floor (with_own_list x (own_changed (λ v. rest v m) x e)) (join x.limits.floor m)
 
--- their least is; for each entry
+-- their least is so moved
 abbrev pub entry_to_floor : (ℕ → ℕ → ℕ) → (ℕ → ℕ → ℕ) → ℕ → Tables → Tables
 entry_to_floor join rest e x = moved_to_floor join rest (own_least x e) e x
 
+-- for each entry in order
 abbrev pub entries_to_floor : (ℕ → ℕ → ℕ) → (ℕ → ℕ → ℕ) → Tables → Tables
 entries_to_floor join rest x = in_turn (entry_to_floor join rest) x.entries.number x
 
--- each open candidate of the entry e that may be closed is closed; of each entry
+-- each candidate of the entry e that is open and may be closed is closed
 abbrev pub entry_closed : (ℕ → ℕ → ℕ) → ℕ → Tables → Tables
 entry_closed join e x = in_turn (λ c y. close_after join y e c) (count_of x e) x
 
+-- for each entry in order
 abbrev pub entries_closed : (ℕ → ℕ → ℕ) → Tables → Tables
 entries_closed join x = in_turn (entry_closed join) x.entries.number x
 
--- a sweep: each pair in order, then each entry, then each candidate
+-- a sweep: first the rows of each pair, then the own penalties of each entry, then the closings
 abbrev pub sweep : (ℕ → ℕ → ℕ) → (ℕ → ℕ → ℕ) → Tables → Tables
 sweep join rest x = entries_closed join (entries_to_floor join rest (pairs_to_own join rest x))
