@@ -1,19 +1,11 @@
 -- Closing a candidate, and lowering the bound.
-use Rattle.std.specs.Prelude.{ℕ, Bool, false, cond, ◌&&◌, Some, None, Ok, Err, Option, Result, nat_le, slice_set}
+use Rattle.std.specs.Prelude.{ℕ, Bool, false, cond, ◌&&◌, Some, None, Option, Result, nat_le, slice_set}
 use Rattle.plan.specs.declared.refusals.Refusal.{Refusal}
 use Rattle.plan.specs.declared.refusals.Refusal.TheVariants.{Absent, BoundOutOfRange, NotAllowed}
 use Rattle.plan.specs.declared.tables.Tables.{Tables}
 use Rattle.plan.specs.Layout.{candidate_place, is_open}
+use Rattle.plan.specs.Refusing.{answered, unless_refused}
 use Rattle.plan.specs.Weights.{weight}
-
--- what is answered, and what is left, where a refusal is known or none
-abbrev pub answered : Option Refusal → Result (Unit {0}) Refusal
-answered None = Ok tt
-answered (Some why) = Err why
-
-abbrev pub unless_refused : Option Refusal → Tables → Tables → Tables
-unless_refused None before after = after
-unless_refused (Some why) before after = before
 
 -- a candidate may be closed when the floor joined with its weight is at least the bound
 abbrev pub may_close : (ℕ → ℕ → ℕ) → Tables → ℕ → ℕ → Bool

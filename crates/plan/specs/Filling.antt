@@ -1,5 +1,5 @@
 -- What lists make of a plan's tables, and what filling answers and leaves.
-use Rattle.std.specs.Prelude.{ℕ, zero, suc, ◌+◌, ◌*◌, ◌<◌, ◌≤◌, Bool, cond, ◌&&◌, List, length, take, Some, None, Ok, Err, sum, Option, Result, ◌==◌, nat_lt, slice_index, slice_set}
+use Rattle.std.specs.Prelude.{ℕ, zero, suc, ◌+◌, ◌*◌, ◌<◌, ◌≤◌, Bool, cond, ◌&&◌, List, length, take, Some, None, Ok, Err, sum, Option, Result, ◌==◌, nat_lt, slice_index, slice_index_or, slice_set}
 use Rattle.plan.specs.declared.records.PairRecord.{PairRecord}
 use Rattle.plan.specs.declared.refusals.FillFault.{FillFault}
 use Rattle.plan.specs.declared.tables.Entries.{Entries}
@@ -41,7 +41,7 @@ filled_entries counts own = record {
 
 -- the number of the pair of the entries e and o among the first k, or else k
 abbrev pub is_pair : Pairs → ℕ → ℕ → ℕ → Bool
-is_pair x e o p = slice_index x.firsts p == e && slice_index x.seconds p == o
+is_pair x e o p = (slice_index_or x.ends p (0, 0)).0 == e && (slice_index_or x.ends p (0, 0)).1 == o
 
 abbrev pub next_place : ℕ → ℕ → Bool → ℕ
 next_place p k here = cond (nat_lt p k) p (cond here k (suc k))
@@ -55,14 +55,14 @@ pair_place x e o = place_among x e o x.number
 
 -- a pair more
 abbrev pub with_pair : Pairs → ℕ → ℕ → Pairs
-with_pair x e o = record { number = x.number + 1; firsts = slice_set x.firsts x.number e; seconds = slice_set x.seconds x.number o; cells = x.cells }
+with_pair x e o = record { number = x.number + 1; ends = slice_set x.ends x.number (e, o); cells = x.cells }
 
 -- the pair is there, or takes the next number
 abbrev pub with_room_for : Pairs → ℕ → ℕ → Pairs
 with_room_for x e o = cond (pair_place x e o == x.number) (with_pair x e o) x
 
 abbrev pub with_cell : Pairs → ℕ → ℕ → Pairs
-with_cell x i points = record { number = x.number; firsts = x.firsts; seconds = x.seconds; cells = slice_set x.cells i points }
+with_cell x i points = record { number = x.number; ends = x.ends; cells = slice_set x.cells i points }
 
 -- a record written; the first n records written
 abbrev pub with_record : Pairs → PairRecord → Pairs

@@ -6,7 +6,7 @@ use Rattle.plan.specs.declared.tables.Tables.{Tables}
 abbrev pub empty_tables : ℕ → Tables
 empty_tables ceiling = record {
   entries = record { number = 0; counts = replicate 16 0; own = replicate 128 0; marks = replicate 128 true };
-  pairs = record { number = 0; firsts = replicate 24 0; seconds = replicate 24 0; cells = replicate 1536 0 };
+  pairs = record { number = 0; ends = replicate 24 (0, 0); cells = replicate 1536 0 };
   limits = record { floor = 0; ceiling = ceiling; bound = ceiling };
   hand = None;
 }

@@ -21,11 +21,14 @@ abbrev pub open_at : Tables → ℕ → ℕ → Bool
 open_at x e c = slice_index_or x.entries.marks (candidate_place e c) false
 
 -- the two entries of the pair p, and its cell for a candidate of each
+abbrev pub ends_of : Tables → ℕ → ℕ × ℕ
+ends_of x p = slice_index_or x.pairs.ends p (0, 0)
+
 abbrev pub first_of : Tables → ℕ → ℕ
-first_of x p = slice_index x.pairs.firsts p
+first_of x p = (ends_of x p).0
 
 abbrev pub second_of : Tables → ℕ → ℕ
-second_of x p = slice_index x.pairs.seconds p
+second_of x p = (ends_of x p).1
 
 abbrev pub cell_of : Tables → ℕ → ℕ → ℕ → ℕ
 cell_of x p a b = slice_index x.pairs.cells (cell_place p a b)

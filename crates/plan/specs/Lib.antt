@@ -1,4 +1,5 @@
 pub mod Layout
+pub mod Refusing
 pub mod Invariant
 pub mod Tunings
 pub mod Costs

@@ -9,7 +9,7 @@ use Rattle.plan.specs.declared.refusals.Refusal.TheVariants.{Absent, AmountOutOf
 use Rattle.plan.specs.declared.tables.Hand.{Hand}
 use Rattle.plan.specs.declared.tables.Tables.{Tables}
 use Rattle.plan.specs.declared.token.Token.{Token}
-use Rattle.plan.specs.Closing.{unless_refused}
+use Rattle.plan.specs.Refusing.{unless_refused}
 use Rattle.plan.specs.Layout.{candidate_place, own_of, is_open}
 use Rattle.plan.specs.Rows.{is_at, row_least, row_changed}
 
@@ -25,7 +25,7 @@ with_own_list x own = record {
 abbrev pub with_cell_list : Tables → List ℕ → Tables
 with_cell_list x cells = record {
   entries = x.entries;
-  pairs = record { number = x.pairs.number; firsts = x.pairs.firsts; seconds = x.pairs.seconds; cells = cells };
+  pairs = record { number = x.pairs.number; ends = x.pairs.ends; cells = cells };
   limits = x.limits;
   hand = x.hand;
 }

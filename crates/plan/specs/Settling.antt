@@ -4,7 +4,7 @@ use Rattle.plan.specs.declared.refusals.Refusal.{Refusal}
 use Rattle.plan.specs.declared.refusals.Refusal.TheVariants.{TooManySweeps}
 use Rattle.plan.specs.declared.tables.Settled.{Settled}
 use Rattle.plan.specs.declared.tables.Tables.{Tables}
-use Rattle.plan.specs.Closing.{unless_refused}
+use Rattle.plan.specs.Refusing.{unless_refused}
 use Rattle.plan.specs.Sweeps.{sweep}
 
 -- two lists of numbers, or of marks, are the same

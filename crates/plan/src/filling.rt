@@ -66,7 +66,7 @@ impl Pairs {
         ensures is_its_place { result ≡ pair_place self.now entry other }
     {
         for p in 0..self.number {
-            if self.firsts[p] == entry && self.seconds[p] == other {
+            if self.ends[p] == (entry, other) {
                 return p;
             }
         }
@@ -82,8 +82,7 @@ impl Pairs {
     {
         let p = self.place(r.entry, r.other);
         if p == self.number {
-            self.firsts[p] = r.entry;
-            self.seconds[p] = r.other;
+            self.ends[p] = (r.entry, r.other);
             self.number += 1;
         }
         self.cells[64 * p + 8 * r.candidate + r.choice] = r.points;

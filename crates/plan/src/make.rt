@@ -22,8 +22,7 @@ impl Tables {
             },
             pairs: Pairs {
                 number: 0,
-                firsts: [0; 24],
-                seconds: [0; 24],
+                ends: [(0, 0); 24],
                 cells: [0; 1536],
             },
             limits: Limits {

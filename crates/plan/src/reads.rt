@@ -37,10 +37,7 @@ impl<S> Plan<S> {
         ensures are_its_entries { result ≡ (if nat_lt pair self.now.tables.pairs.number then Some (first_of self.now.tables pair, second_of self.now.tables pair) else None) }
     {
         if pair < self.tables.pairs.number {
-            Some((
-                self.tables.pairs.firsts[pair],
-                self.tables.pairs.seconds[pair],
-            ))
+            Some(self.tables.pairs.ends[pair])
         } else {
             None
         }

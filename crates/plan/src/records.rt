@@ -1,7 +1,7 @@
 // Records of penalties between candidates.
 
 // The points of one cell: of the candidate of an entry with the choice of another, higher entry.
-#[derive(Clone, Copy)]
+#[derive(Clone, Copy, Debug, PartialEq, Eq)]
 pub struct PairRecord {
     pub entry: usize,
     pub candidate: usize,

@@ -2,73 +2,52 @@
 ghost use Rattle.std.specs.Prelude.{◌≡◌};
 ghost use Rattle.plan.specs.Numbers.{number_of, list_number_of};
 
-#[derive(Clone, Copy)]
+// Each with the number that a user sees.
+#[derive(Clone, Copy, Debug, PartialEq, Eq)]
 pub enum Refusal {
-    CeilingOutOfRange,
-    AlreadyFilled,
-    CountOutOfRange,
-    OwnLength,
-    PointsAboveCeiling,
-    RecordOfAbsent,
-    RepeatedCell,
-    TooManyPairs,
-    Absent,
-    AmountOutOfRange,
-    HandNotEmpty,
-    NotInHand,
-    BoundOutOfRange,
-    TooManySweeps,
-    NotAllowed,
+    CeilingOutOfRange = 1,
+    AlreadyFilled = 2,
+    CountOutOfRange = 3,
+    OwnLength = 4,
+    PointsAboveCeiling = 5,
+    RecordOfAbsent = 6,
+    RepeatedCell = 7,
+    TooManyPairs = 8,
+    Absent = 9,
+    AmountOutOfRange = 10,
+    HandNotEmpty = 11,
+    NotInHand = 12,
+    BoundOutOfRange = 13,
+    TooManySweeps = 14,
+    NotAllowed = 15,
 }
 
 impl Refusal {
-    // The number that a user sees.
     pub fn number(&self) -> u32
         ensures is_its_number { result ≡ number_of self.now }
     {
-        match self {
-            Refusal::CeilingOutOfRange => 1,
-            Refusal::AlreadyFilled => 2,
-            Refusal::CountOutOfRange => 3,
-            Refusal::OwnLength => 4,
-            Refusal::PointsAboveCeiling => 5,
-            Refusal::RecordOfAbsent => 6,
-            Refusal::RepeatedCell => 7,
-            Refusal::TooManyPairs => 8,
-            Refusal::Absent => 9,
-            Refusal::AmountOutOfRange => 10,
-            Refusal::HandNotEmpty => 11,
-            Refusal::NotInHand => 12,
-            Refusal::BoundOutOfRange => 13,
-            Refusal::TooManySweeps => 14,
-            Refusal::NotAllowed => 15,
-        }
+        *self as u32
     }
 }
 
-// The lists that a plan is filled from.
-#[derive(Clone, Copy)]
+// The lists that a plan is filled from, each with the number that a user sees.
+#[derive(Clone, Copy, Debug, PartialEq, Eq)]
 pub enum FillList {
-    Counts,
-    Own,
-    Pairs,
+    Counts = 0,
+    Own = 1,
+    Pairs = 2,
 }
 
 impl FillList {
-    // The number that a user sees.
     pub fn number(&self) -> u32
         ensures is_its_number { result ≡ list_number_of self.now }
     {
-        match self {
-            FillList::Counts => 0,
-            FillList::Own => 1,
-            FillList::Pairs => 2,
-        }
+        *self as u32
     }
 }
 
 // Why lists are refused: at which place of which list.
-#[derive(Clone, Copy)]
+#[derive(Clone, Copy, Debug, PartialEq, Eq)]
 pub struct FillFault {
     pub refusal: Refusal,
     pub list: FillList,

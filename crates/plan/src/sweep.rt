@@ -18,7 +18,7 @@ impl Tables {
         requires there { pair < 24 }
         ensures are_its_entries { result ≡ (first_of self.now pair, second_of self.now pair) }
     {
-        (self.pairs.firsts[pair], self.pairs.seconds[pair])
+        self.pairs.ends[pair]
     }
 
     // Takes an amount off each number of a row and joins it to the own penalty of its candidate.

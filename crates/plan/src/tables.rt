@@ -16,17 +16,16 @@ pub struct Entries {
     pub marks: [bool; 128],
 }
 
-// The pairs: the two entries of each, and a cell for each candidate of the one with each of the other.
+// The pairs: the two entries of each, the lower one first, and a cell for each candidate of the one with each of the other.
 #[derive(Clone, Copy)]
 pub struct Pairs {
     pub number: usize,
-    pub firsts: [usize; 24],
-    pub seconds: [usize; 24],
+    pub ends: [(usize, usize); 24],
     pub cells: [u32; 1536],
 }
 
 // The floor, which every tuning pays; the ceiling, which no penalty passes; and the bound, below which a tuning is sought.
-#[derive(Clone, Copy)]
+#[derive(Clone, Copy, Debug, PartialEq, Eq)]
 pub struct Limits {
     pub floor: u32,
     pub ceiling: u32,
@@ -34,7 +33,7 @@ pub struct Limits {
 }
 
 // An amount that was taken for a candidate and is not joined to anything yet.
-#[derive(Clone, Copy)]
+#[derive(Clone, Copy, Debug, PartialEq, Eq)]
 pub struct Hand {
     pub entry: usize,
     pub candidate: usize,
@@ -42,7 +41,7 @@ pub struct Hand {
 }
 
 // How far settling came: the sweeps made, and whether the last of them changed nothing.
-#[derive(Clone, Copy)]
+#[derive(Clone, Copy, Debug, PartialEq, Eq)]
 pub struct Settled {
     pub sweeps: u32,
     pub stable: bool,
