@@ -1,5 +1,5 @@
 -- What keeps every cheap tuning: nothing at all, one thing after another, a candidate closed, the bound lowered.
-use Rattle.std.proofs.Common.{◌≡◌, ℕ, zero, suc, ◌<◌, ◌≤◌, Bool, true, false, ltb, leb, List, [], ◌∷◌, ◌++◌, map, get_or, set, Some, None, Option, sym, refl, ap, ◌∙◌, ⊎_elim, arith}
+use Rattle.std.proofs.Common.{◌≡◌, ℕ, zero, suc, ◌<◌, ◌≤◌, Bool, true, false, ltb, leb, List, [], ◌∷◌, ◌++◌, map, get_or, set, Some, None, Option, sym, refl, ap, ◌∙◌, subst, ⊎_elim, arith}
 use Rattle.std.specs.List.{range_with_len}
 use Rattle.std.proofs.lemmas.List.{get_or-set_other, length-set}
 use Rattle.std.proofs.lemmas.Bool.{cases_Bool, cases_eq, both_ways, and_parts, and_from, ltb-true, leb-true}
@@ -12,7 +12,8 @@ use Rattle.plan.specs.declared.tables.Hand.{Hand}
 use Rattle.plan.specs.declared.tables.Tables.{Tables}
 use Rattle.plan.proofs.Accepts.{passed}
 use Rattle.plan.specs.declared.refusals.Refusal.{Refusal}
-use Rattle.plan.specs.Closing.{unless_refused, may_close, close_refusal, with_closed, lower_refusal, with_bound}
+use Rattle.plan.specs.Refusing.{unless_refused}
+use Rattle.plan.specs.Closing.{may_close, close_refusal, with_closed, lower_refusal, with_bound}
 use Rattle.plan.specs.Costs.{hand_part, own_part, cell_part, cost}
 use Rattle.plan.specs.Invariant.{Sound}
 use Rattle.plan.specs.Keeping.{Keeps}
@@ -25,6 +26,10 @@ use Rattle.plan.proofs.OpenTunings.{open_tuning, is_open_from}
 pub record Kept (join : ℕ → ℕ → ℕ) (x y : Tables) : Type 0 where
   pub keeps : Keeps join x y
   pub sound : Sound y
+
+-- what is kept of tables is kept of equal tables
+pub kept_as : (join : ℕ → ℕ → ℕ) (x y z : Tables) → Kept join x y → z ≡ y → Kept join x z
+kept_as join x y z kept same = subst (Kept join x) (sym same) kept
 
 pub keeps_refl : (join : ℕ → ℕ → ℕ) (x : Tables) → Keeps join x x
 keeps_refl join x = record {

@@ -3,8 +3,9 @@ use Rattle.std.proofs.Common.{ℕ}
 use Rattle.scale.specs.Ceilings.{effective}
 use Rattle.scale.specs.Laws.{Lawful}
 use Rattle.scale.proofs.JoinedLists.{lawful_at}
-use Rattle.plan.specs.declared.tables.Tables.{Tables}
-use Rattle.plan.specs.Invariant.{Sound}
+use Rattle.plan.specs.declared.Plan.{Plan}
+use Rattle.plan.specs.Plans.{at_ceiling}
 
-pub laws_of : (x : Tables) → Sound x → (join rest : ℕ → ℕ → ℕ → ℕ) → ((c : ℕ) → Lawful (effective c) (join c) (rest c)) → Lawful x.limits.ceiling (join x.limits.ceiling) (rest x.limits.ceiling)
-laws_of x sound join rest laws = lawful_at x.limits.ceiling (join x.limits.ceiling) (rest x.limits.ceiling) sound.2.2 (laws x.limits.ceiling)
+pub laws_of : {S : Type 0} {join rest : S → ℕ → ℕ → ℕ → ℕ} → ((s : S) (c : ℕ) → Lawful (effective c) (join s c) (rest s c)) → (plan : Plan S) →
+    Lawful plan.tables.limits.ceiling (at_ceiling join plan) (at_ceiling rest plan)
+laws_of {join = join} {rest = rest} lawful plan = lawful_at plan.tables.limits.ceiling (at_ceiling join plan) (at_ceiling rest plan) plan.sound.2.2 (lawful plan.scale plan.tables.limits.ceiling)

@@ -1,39 +1,36 @@
--- What loops over rows, and over the own penalties of an entry, know.
-use Rattle.std.proofs.Common.{◌≡◌, ℕ, ◌+◌, Bool, get_or, Option, unwrap_or, ap, ◌∙◌, add-one}
+-- The marks of an entry, taken out of all marks: what is done by them is done for its open candidates.
+use Rattle.std.proofs.Common.{◌≡◌, ℕ, zero, suc, ◌+◌, ◌*◌, ◌-◌, ◌<◌, ◌≤◌, Bool, false, List, length, get_or, take, drop, unwrap_or, refl, ap, ◌∙◌, arith}
+use Rattle.std.proofs.lemmas.List.{get_or-take, get_or-drop, length-take, length-drop}
 use Rattle.plan.specs.declared.tables.Tables.{Tables}
+use Rattle.plan.specs.Invariant.{Sound}
 use Rattle.plan.specs.Layout.{candidate_place, count_of, open_at}
-use Rattle.plan.specs.Lifting.{with_own_list, with_cell_list}
-use Rattle.plan.specs.Rows.{changed_one, changed, lesser, least_where, is_first, other_of, row_place, row_least, row_changed}
+use Rattle.plan.specs.Rows.{changed_one, changed, lesser, least_where, is_marked}
 
--- one number more
-pub least_more : (test : ℕ → Bool) (f : ℕ → ℕ) (k v : ℕ) (low new : Option ℕ) → low ≡ least_where test f k → new ≡ lesser (test k) v low → v ≡ f k → new ≡ least_where test f (k + 1)
-least_more test f k v low new so_far is e = rw add-one (is ∙ ap (λ (n : ℕ). lesser (test k) n low) e ∙ ap (lesser (test k) (f k)) so_far)
+-- the marks are those of the candidates of the entry e
+pub record MarksOf (x : Tables) (e : ℕ) (marks : List Bool) : Type 0 where
+  pub as_many : length marks ≡ count_of x e
+  pub same : (k : ℕ) → k < count_of x e → is_marked marks k ≡ open_at x e k
 
--- all numbers of the row
-pub least_all : (x : Tables) (e c p o k : ℕ) (low : Option ℕ) → o ≡ other_of x e p → k ≡ count_of x o →
-    low ≡ least_where (open_at x o) (λ j. get_or x.pairs.cells (row_place (is_first x e p) p c j) 0) k → unwrap_or low 0 ≡ row_least x e c p
-least_all x e c p o k low is_other is_end so_far =
-    let row = λ (i n : ℕ). unwrap_or (least_where (open_at x i) (λ j. get_or x.pairs.cells (row_place (is_first x e p) p c j) 0) n) 0 in
-    ap (λ (l : Option ℕ). unwrap_or l 0) so_far ∙ ap (row o) is_end ∙ ap (λ (i : ℕ). row i (count_of x i)) is_other
+pub marks_of : (x : Tables) → Sound x → (e n : ℕ) → e < 16 → n ≡ count_of x e → MarksOf x e (take n (drop (8 * e) x.entries.marks))
+marks_of x s e n h q = record {
+  as_many = omega (arith, length-take n (drop (8 * e) x.entries.marks), length-drop (8 * e) x.entries.marks, s.0.2 e, s.0.4);
+  same = λ k l. get_or-take n (drop (8 * e) x.entries.marks) k false (omega arith) ∙ get_or-drop (8 * e) x.entries.marks k false;
+}
 
--- one cell more is changed, by what is done at the ceiling
-pub row_more : (x y z : Tables) (by : ℕ → ℕ → ℕ) (o k at : ℕ) (place : ℕ → ℕ) → y ≡ with_cell_list x (changed (open_at x o) place (by x.limits.ceiling) k x.pairs.cells) → at ≡ place k →
-    z ≡ with_cell_list y (changed_one (open_at y o k) at (by y.limits.ceiling) y.pairs.cells) →
-    z ≡ with_cell_list x (changed (open_at x o) place (by x.limits.ceiling) (k + 1) x.pairs.cells)
-row_more x y z by o k at place so_far is_place step =
-    rw add-one (step ∙ ap (λ (i : ℕ). with_cell_list y (changed_one (open_at y o k) i (by y.limits.ceiling) y.pairs.cells)) is_place
-    ∙ ap (λ (t : Tables). with_cell_list t (changed_one (open_at t o k) (place k) (by t.limits.ceiling) t.pairs.cells)) so_far)
+-- tests that agree change the same numbers, and find the same least
+changed_same : (s t : ℕ → Bool) (at by : ℕ → ℕ) (n : ℕ) (xs : List ℕ) → ((k : ℕ) → k < n → s k ≡ t k) → changed s at by n xs ≡ changed t at by n xs
+changed_same s t at by zero xs h = refl
+changed_same s t at by (suc n) xs h =
+    ap (changed_one (s n) (at n) by) (changed_same s t at by n xs (λ k l. h k (omega arith))) ∙ ap (λ (b : Bool). changed_one b (at n) by (changed t at by n xs)) (h n (omega arith))
 
--- all cells of the row are
-pub row_all : (x y : Tables) (g : ℕ → ℕ) (e c p o k : ℕ) → o ≡ other_of x e p → k ≡ count_of x o →
-    y ≡ with_cell_list x (changed (open_at x o) (row_place (is_first x e p) p c) g k x.pairs.cells) → y ≡ with_cell_list x (row_changed g x e c p)
-row_all x y g e c p o k is_other is_end so_far =
-    let row = λ (i n : ℕ). with_cell_list x (changed (open_at x i) (row_place (is_first x e p) p c) g n x.pairs.cells) in
-    so_far ∙ ap (row o) is_end ∙ ap (λ (i : ℕ). row i (count_of x i)) is_other
+least_same : (s t : ℕ → Bool) (f : ℕ → ℕ) (n : ℕ) → ((k : ℕ) → k < n → s k ≡ t k) → least_where s f n ≡ least_where t f n
+least_same s t f zero h = refl
+least_same s t f (suc n) h =
+    ap (lesser (s n) (f n)) (least_same s t f n (λ k l. h k (omega arith))) ∙ ap (λ (b : Bool). lesser b (f n) (least_where t f n)) (h n (omega arith))
 
--- one own penalty more is
-pub own_more : (x y z : Tables) (by : ℕ → ℕ → ℕ) (e k : ℕ) → y ≡ with_own_list x (changed (open_at x e) (candidate_place e) (by x.limits.ceiling) k x.entries.own) →
-    z ≡ with_own_list y (changed_one (open_at y e k) (candidate_place e k) (by y.limits.ceiling) y.entries.own) →
-    z ≡ with_own_list x (changed (open_at x e) (candidate_place e) (by x.limits.ceiling) (k + 1) x.entries.own)
-own_more x y z by e k so_far step =
-    rw add-one (step ∙ ap (λ (t : Tables). with_own_list t (changed_one (open_at t e k) (candidate_place e k) (by t.limits.ceiling) t.entries.own)) so_far)
+module _ (x : Tables) (e : ℕ) (marks : List Bool) (of : MarksOf x e marks) where
+  pub changed_of : (at by : ℕ → ℕ) (xs : List ℕ) → changed (is_marked marks) at by (length marks) xs ≡ changed (open_at x e) at by (count_of x e) xs
+  changed_of at by xs = ap (λ (n : ℕ). changed (is_marked marks) at by n xs) of.as_many ∙ changed_same (is_marked marks) (open_at x e) at by (count_of x e) xs of.same
+
+  pub least_of : (f : ℕ → ℕ) → unwrap_or (least_where (is_marked marks) f (length marks)) 0 ≡ unwrap_or (least_where (open_at x e) f (count_of x e)) 0
+  least_of f = ap (λ (n : ℕ). unwrap_or (least_where (is_marked marks) f n) 0) of.as_many ∙ ap (λ o. unwrap_or o 0) (least_same (is_marked marks) (open_at x e) f (count_of x e) of.same)

@@ -7,7 +7,8 @@ use Rattle.plan.specs.declared.refusals.Refusal.{Refusal}
 use Rattle.plan.specs.declared.place.Place.TheVariants.{OwnPenalty, Row}
 use Rattle.plan.specs.declared.tables.Hand.{Hand}
 use Rattle.plan.specs.declared.tables.Tables.{Tables}
-use Rattle.plan.specs.Closing.{unless_refused, close_refusal, with_closed, close_after}
+use Rattle.plan.specs.Refusing.{unless_refused}
+use Rattle.plan.specs.Closing.{close_refusal, with_closed, close_after}
 use Rattle.plan.specs.Costs.{hand_part, own_part, cost}
 use Rattle.plan.specs.Invariant.{Sound, hand_there}
 use Rattle.plan.specs.Keeping.{Keeps}
@@ -15,7 +16,7 @@ use Rattle.plan.specs.Layout.{candidate_place, count_of, own_of, open_at, first_
 use Rattle.plan.specs.Lifting.{adjusted}
 use Rattle.plan.specs.Rows.{is_at, row_least}
 use Rattle.plan.specs.Settling.{Progress, swept, unless_stable, after_sweeps}
-use Rattle.plan.specs.Sweeps.{in_turn, moved_to_own, row_to_own, rows_to_own, pair_to_own, pairs_to_own, own_least, moved_to_floor, entry_to_floor, entries_to_floor, entry_closed, sweep}
+use Rattle.plan.specs.Sweeps.{Frame, frame, in_turn, moved_to_own, row_to_own, rows_to_own, pair_to_own, pairs_to_own, own_least, moved_to_floor, entry_to_floor, entries_to_floor, entry_closed, sweep}
 use Rattle.plan.specs.Tunings.{OpenTuning}
 use Rattle.plan.proofs.Adjusting.{length_changed, changed_low, changed_other, changed_at, least_at_most}
 use Rattle.plan.proofs.Keepings.{keeps_refl, keeps_trans, unless_kept, close_kept}
@@ -23,35 +24,12 @@ use Rattle.plan.proofs.Lifts.{Touched, owns, cells, cost_in_three, over_lifted}
 use Rattle.plan.proofs.OpenTunings.{tuning_from_open}
 use Rattle.plan.proofs.Transfers.{body, adjusted_sound, body_lifted, body_set}
 
--- what no sweep changes
-pub record Frame : Type 0 where
-  pub entries_number : ℕ
-  pub counts : List ℕ
-  pub pairs_number : ℕ
-  pub firsts : List ℕ
-  pub seconds : List ℕ
-  pub ceiling : ℕ
-  pub bound : ℕ
-  pub hand : Option Hand
-
-abbrev pub frame : Tables → Frame
-frame x = record {
-  entries_number = x.entries.number;
-  counts = x.entries.counts;
-  pairs_number = x.pairs.number;
-  firsts = x.pairs.firsts;
-  seconds = x.pairs.seconds;
-  ceiling = x.limits.ceiling;
-  bound = x.limits.bound;
-  hand = x.hand;
-}
-
 -- so a candidate is there, and a pair is at an entry, as before
 pub there_as_before : (x y : Tables) → frame y ≡ frame x → (e c : ℕ) → is_there y e c ≡ is_there x e c
 there_as_before x y same e c = ap (λ (f : Frame). ltb e f.entries_number && ltb c (get_or f.counts e 0)) same
 
 pub at_as_before : (x y : Tables) → frame y ≡ frame x → (e p : ℕ) → is_at y e p ≡ is_at x e p
-at_as_before x y same e p = ap (λ (f : Frame). ltb p f.pairs_number && (eqb (get_or f.firsts p 0) e || eqb (get_or f.seconds p 0) e)) same
+at_as_before x y same e p = ap (λ (f : Frame). ltb p f.pairs_number && (eqb (get_or f.ends p (0, 0)).0 e || eqb (get_or f.ends p (0, 0)).1 e)) same
 
 pub is_there_from : (x : Tables) (e c : ℕ) → e < x.entries.number → c < count_of x e → is_there x e c ≡ true
 is_there_from x e c l h = and_from _ _ (lt-ltb e x.entries.number l) (lt-ltb c (count_of x e) h)
@@ -82,6 +60,14 @@ first_at x p l = and_from _ _ (lt-ltb p x.pairs.number l) (or_left _ _ (eq-eqb (
 
 pub second_at : (x : Tables) (p : ℕ) → p < x.pairs.number → is_at x (second_of x p) p ≡ true
 second_at x p l = and_from _ _ (lt-ltb p x.pairs.number l) (or_right _ _ (eq-eqb (second_of x p) (second_of x p) refl))
+
+-- a closing, accepted or refused, changes a mark at most
+pub closed_frame : (join : ℕ → ℕ → ℕ) (x : Tables) (e c : ℕ) → frame (close_after join x e c) ≡ frame x
+closed_frame join x e c = stays (close_refusal join x e c)
+  where
+    stays : (o : Option Refusal) → frame (unless_refused o x (with_closed x e c)) ≡ frame x
+    stays None = refl
+    stays (Some why) = refl
 
 module _ {top : ℕ} {join rest : ℕ → ℕ → ℕ} (law : Lawful top join rest) where
   -- what an amount is taken off stays sound
@@ -189,7 +175,7 @@ module _ {top : ℕ} {join rest : ℕ → ℕ → ℕ} (law : Lawful top join re
         let six = law.commutative m own in
         cc
 
-    moved_to_floor_swept : Swept join x floored
+    pub moved_to_floor_swept : Swept join x floored
     moved_to_floor_swept = record {
       keeps = record {
         same_ceiling = refl;
@@ -224,11 +210,7 @@ module _ {top : ℕ} {join rest : ℕ → ℕ → ℕ} (law : Lawful top join re
   close_swept : (x : Tables) → Sound x → x.limits.ceiling ≡ top → (e c : ℕ) → Swept join x (close_after join x e c)
   close_swept x s is_top e c =
       let kept = unless_kept join x (with_closed x e c) (close_refusal join x e c) s (close_kept law x e c s is_top) in
-      record { keeps = kept.keeps; sound = kept.sound; same_frame = stays (close_refusal join x e c) }
-    where
-      stays : (o : Option Refusal) → frame (unless_refused o x (with_closed x e c)) ≡ frame x
-      stays None = refl
-      stays (Some why) = refl
+      record { keeps = kept.keeps; sound = kept.sound; same_frame = closed_frame join x e c }
 
   pub entry_closed_swept : (x : Tables) → Sound x → x.limits.ceiling ≡ top → (e n : ℕ) → Swept join x (in_turn (λ c y. close_after join y e c) n x)
   entry_closed_swept x s is_top e n = in_turn_swept join x (λ c y. close_after join y e c) n s (λ c y l sy same. close_swept y sy (ap (λ (f : Frame). f.ceiling) same ∙ is_top) e c)

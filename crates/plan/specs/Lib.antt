@@ -15,5 +15,6 @@ pub mod Keeping
 pub mod Rows
 pub mod Lifting
 pub mod Sweeps
+pub mod Plans
 pub mod Settling
 pub mod Histories

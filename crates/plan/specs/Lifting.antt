@@ -1,16 +1,15 @@
 -- Lifting an amount, and setting it down.
-use Rattle.std.specs.Prelude.{ℕ, Bool, true, false, cond, ◌&&◌, List, is_some, Some, None, Ok, Err, Option, Result, ◌==◌, nat_le, slice_set}
+use Rattle.std.specs.Prelude.{◌≡◌, ℕ, Bool, true, false, cond, ◌&&◌, List, is_some, Some, None, Ok, Err, Option, Result, ◌==◌, nat_le, slice_set}
 use Rattle.plan.specs.declared.place.Place.{Place}
 use Rattle.plan.specs.declared.place.Place.TheVariants.{OwnPenalty, Row}
-use Rattle.plan.specs.declared.rows.Change.{Change}
-use Rattle.plan.specs.declared.rows.Change.TheVariants.{TakeOff, JoinTo}
 use Rattle.plan.specs.declared.refusals.Refusal.{Refusal}
 use Rattle.plan.specs.declared.refusals.Refusal.TheVariants.{Absent, AmountOutOfRange, HandNotEmpty, NotInHand}
 use Rattle.plan.specs.declared.tables.Hand.{Hand}
 use Rattle.plan.specs.declared.tables.Tables.{Tables}
 use Rattle.plan.specs.declared.token.Token.{Token}
 use Rattle.plan.specs.Refusing.{unless_refused}
-use Rattle.plan.specs.Layout.{candidate_place, own_of, is_open}
+use Rattle.plan.specs.Invariant.{Sound}
+use Rattle.plan.specs.Layout.{candidate_place, own_of, is_there, is_open}
 use Rattle.plan.specs.Rows.{is_at, row_least, row_changed}
 
 -- other own penalties; other cells; another hand
@@ -43,6 +42,12 @@ abbrev pub is_place : Tables → ℕ → Place → Bool
 is_place x e OwnPenalty = true
 is_place x e (Row p) = is_at x e p
 
+-- in sound tables the candidate c of the entry e is there, and the place is at the entry
+pub record CanAdjust (x : Tables) (e c : ℕ) (place : Place) : Type 0 where
+  pub sound : Sound x
+  pub there : is_there x e c ≡ true
+  pub at : is_place x e place ≡ true
+
 -- the largest amount: the least number drawn on
 abbrev pub largest_amount : Tables → ℕ → ℕ → Place → ℕ
 largest_amount x e c OwnPenalty = own_of x e c
@@ -53,11 +58,6 @@ abbrev pub lift_refusal : Tables → Place → ℕ → ℕ → ℕ → Option Re
 lift_refusal x from e c amount =
     cond (is_some x.hand) (Some HandNotEmpty)
     (cond (is_open x e c && is_place x e from) (cond (nat_le 1 amount && nat_le amount (largest_amount x e c from)) None (Some AmountOutOfRange)) (Some Absent))
-
--- how an amount changes a number: it is taken off, or it is joined to it
-abbrev pub by_change : Change → (ℕ → ℕ → ℕ) → (ℕ → ℕ → ℕ) → ℕ → ℕ → ℕ
-by_change TakeOff join rest amount v = rest v amount
-by_change JoinTo join rest amount v = join v amount
 
 -- the amount is taken off each number drawn on, and is in hand
 abbrev pub lifted : (ℕ → ℕ → ℕ) → Tables → Place → ℕ → ℕ → ℕ → Tables

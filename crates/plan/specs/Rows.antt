@@ -1,8 +1,23 @@
 -- Rows: the cells of a pair at a candidate, with the open candidates of the other entry.
-use Rattle.std.specs.Prelude.{ℕ, zero, suc, min, Bool, true, false, cond, ◌&&◌, ◌||◌, List, Some, None, Option, ◌==◌, nat_lt, slice_index, slice_set}
+use Rattle.std.specs.Prelude.{◌≡◌, ℕ, ◌<◌, zero, suc, min, Bool, true, false, cond, ◌&&◌, ◌||◌, List, Some, None, Option, ◌==◌, nat_lt, slice_index, slice_index_or, slice_set}
 use Rattle.std.specs.Option.{unwrap_or}
 use Rattle.plan.specs.declared.tables.Tables.{Tables}
 use Rattle.plan.specs.Layout.{cell_place, count_of, open_at, first_of, second_of}
+
+-- what is answered for each number below n is f of it; what is answered for any number is
+abbrev pub ComputesBelow : ℕ → (ℕ → ℕ → Type 0) → (ℕ → ℕ) → Type 0
+ComputesBelow n Answers f = (k answer : ℕ) → k < n → Answers k answer → answer ≡ f k
+
+abbrev pub Computes : (ℕ → ℕ → Type 0) → (ℕ → ℕ) → Type 0
+Computes Answers f = (k answer : ℕ) → Answers k answer → answer ≡ f k
+
+-- what is answered for each number below n is below a limit
+abbrev pub StaysBelow : ℕ → (ℕ → ℕ → Type 0) → ℕ → Type 0
+StaysBelow n Answers limit = (k answer : ℕ) → k < n → Answers k answer → answer < limit
+
+-- the mark k is set
+abbrev pub is_marked : List Bool → ℕ → Bool
+is_marked marks k = slice_index_or marks k false
 
 -- the numbers at the places of those k below n that pass a test become g of what they were
 abbrev pub changed_one : Bool → ℕ → (ℕ → ℕ) → List ℕ → List ℕ

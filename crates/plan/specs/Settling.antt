@@ -1,5 +1,7 @@
 -- Settling: sweeps, up to a number of them, until one changes nothing.
-use Rattle.std.specs.Prelude.{ℕ, zero, suc, ◌+◌, Bool, true, false, cond, not, ◌&&◌, List, [], ◌∷◌, Some, None, Ok, Err, Option, Result, ◌==◌, nat_le}
+use Rattle.std.specs.Prelude.{ℕ, zero, suc, ◌+◌, Bool, true, false, cond, ◌&&◌, Some, None, Ok, Err, Option, Result, ◌==◌, nat_eq, nat_le}
+use Rattle.std.specs.Cmp.Lexicographic.{pointwise}
+use Rattle.std.specs.Bool.{beq}
 use Rattle.plan.specs.declared.refusals.Refusal.{Refusal}
 use Rattle.plan.specs.declared.refusals.Refusal.TheVariants.{TooManySweeps}
 use Rattle.plan.specs.declared.tables.Settled.{Settled}
@@ -7,24 +9,12 @@ use Rattle.plan.specs.declared.tables.Tables.{Tables}
 use Rattle.plan.specs.Refusing.{unless_refused}
 use Rattle.plan.specs.Sweeps.{sweep}
 
--- two lists of numbers, or of marks, are the same
-abbrev pub same_numbers : List ℕ → List ℕ → Bool
-same_numbers [] [] = true
-same_numbers [] (y ∷ ys) = false
-same_numbers (x ∷ xs) [] = false
-same_numbers (x ∷ xs) (y ∷ ys) = x == y && same_numbers xs ys
-
-abbrev pub same_marks : List Bool → List Bool → Bool
-same_marks [] [] = true
-same_marks [] (n ∷ ns) = false
-same_marks (m ∷ ms) [] = false
-same_marks (m ∷ ms) (n ∷ ns) = cond m n (not n) && same_marks ms ns
-
 -- no number and no mark that a sweep may change differs
 abbrev pub unchanged : Tables → Tables → Bool
 unchanged x y =
     (x.limits.floor == y.limits.floor)
-    && (same_numbers x.entries.own y.entries.own && (same_marks x.entries.marks y.entries.marks && same_numbers x.pairs.cells y.pairs.cells))
+    && (pointwise nat_eq x.entries.own y.entries.own
+    && (pointwise beq x.entries.marks y.entries.marks && pointwise nat_eq x.pairs.cells y.pairs.cells))
 
 -- how far settling came: the sweeps made, whether the last changed nothing, and the tables
 pub record Progress : Type 0 where
@@ -61,10 +51,6 @@ settle_refusal n = cond (nat_le n 16) None (Some TooManySweeps)
 -- what settling answers of it
 abbrev pub as_settled : Progress → Settled
 as_settled s = record { sweeps = s.made; stable = s.stable }
-
--- such an answer, with the tables that are left
-abbrev pub as_progress : Settled → Tables → Progress
-as_progress s x = record { made = s.sweeps; stable = s.stable; tables = x }
 
 -- the answer to a refused settling, or to one that was made
 abbrev pub settled_unless : Option Refusal → Settled → Result Settled Refusal

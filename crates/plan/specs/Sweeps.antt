@@ -1,7 +1,8 @@
 -- A sweep: penalties are moved from rows to own penalties and from own penalties to the floor, and candidates are closed.
-use Rattle.std.specs.Prelude.{ℕ, zero, suc, cond, List}
+use Rattle.std.specs.Prelude.{ℕ, zero, suc, cond, List, Option}
 use Rattle.std.specs.Option.{unwrap_or}
 use Rattle.plan.specs.declared.place.Place.TheVariants.{OwnPenalty, Row}
+use Rattle.plan.specs.declared.tables.Hand.{Hand}
 use Rattle.plan.specs.declared.tables.Tables.{Tables}
 use Rattle.plan.specs.Closing.{close_after}
 use Rattle.plan.specs.Layout.{candidate_place, count_of, own_of, open_at, first_of, second_of}
@@ -68,3 +69,24 @@ entries_closed join x = in_turn (entry_closed join) x.entries.number x
 -- a sweep: first the rows of each pair, then the own penalties of each entry, then the closings
 abbrev pub sweep : (ℕ → ℕ → ℕ) → (ℕ → ℕ → ℕ) → Tables → Tables
 sweep join rest x = entries_closed join (entries_to_floor join rest (pairs_to_own join rest x))
+
+-- what no sweep changes
+pub record Frame : Type 0 where
+  pub entries_number : ℕ
+  pub counts : List ℕ
+  pub pairs_number : ℕ
+  pub ends : List (ℕ × ℕ)
+  pub ceiling : ℕ
+  pub bound : ℕ
+  pub hand : Option Hand
+
+abbrev pub frame : Tables → Frame
+frame x = record {
+  entries_number = x.entries.number;
+  counts = x.entries.counts;
+  pairs_number = x.pairs.number;
+  ends = x.pairs.ends;
+  ceiling = x.limits.ceiling;
+  bound = x.limits.bound;
+  hand = x.hand;
+}

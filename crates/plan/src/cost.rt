@@ -1,9 +1,10 @@
 // The cost of a tuning.
-ghost use Rattle.std.specs.Prelude.{◌≡◌, min, is_ok, IfOk, Decides, sum};
+ghost use Rattle.std.specs.Prelude.{◌≡◌, ◌↔◌, min, is_ok, IfOk, IsTrue, sum};
 ghost use Rattle.scale.specs.Ceilings.{clamped};
 ghost use Rattle.scale.specs.Sums.{sum_join};
 ghost use Rattle.scale.specs.Worsts.{worst_join, largest};
 ghost use Rattle.plan.specs.Costs.{parts, cost, cost_answer};
+ghost use Rattle.plan.specs.Plans.{at_ceiling};
 ghost use Rattle.plan.specs.Tunings.{OpenTuning};
 
 use crate::Plan;
@@ -14,13 +15,16 @@ use scale::joined::joined_penalty;
 impl<S: Scale> Plan<S> {
     // What an open tuning costs: the floor, its own penalties, its cell of every pair and any amount in hand for its
     // candidates, joined. Anything but an open tuning is refused.
+    #[tactic(auto, using(crate::proofs::OpenTunings::open_tuning, crate::proofs::OpenTunings::is_open_from))]
     pub fn cost(&self, tuning: &[usize]) -> Result<u32, Refusal>
-        ensures answers { result ≡ cost_answer (S.join self.now.scale self.now.tables.limits.ceiling) self.now.tables tuning.now }
-        ensures accepts_exactly_open_tunings { Decides (is_ok result) (OpenTuning self.now.tables tuning.now) }
-        ensures capped_sum_on_the_sum_scale { IfOk result (λ v. S.join self.now.scale ≡ clamped sum_join → v ≡ min self.now.tables.limits.ceiling (sum (parts self.now.tables tuning.now))) }
-        ensures largest_on_the_worst_scale { IfOk result (λ v. S.join self.now.scale ≡ clamped worst_join → v ≡ min self.now.tables.limits.ceiling (largest (parts self.now.tables tuning.now))) }
+        ensures answers { result ≡ cost_answer (at_ceiling S.join self.now) self.now.tables tuning.now }
+        ensures accepts_exactly_open_tunings { IsTrue (is_ok result) ↔ (OpenTuning self.now.tables tuning.now) }
+        ensures capped_sum_on_the_sum_scale { IfOk result (λ v. S.join self.now.scale ≡ clamped sum_join
+            → v ≡ min self.now.tables.limits.ceiling (sum (parts self.now.tables tuning.now))) }
+        ensures largest_on_the_worst_scale { IfOk result (λ v. S.join self.now.scale ≡ clamped worst_join
+            → v ≡ min self.now.tables.limits.ceiling (largest (parts self.now.tables tuning.now))) }
     {
-        if !self.tables.is_open_tuning(tuning) {
+        if !self.is_open_tuning(tuning) {
             return Err(Refusal::Absent);
         }
         Ok(self.paid(tuning))
@@ -29,12 +33,13 @@ impl<S: Scale> Plan<S> {
     // All that an open tuning pays, joined.
     fn paid(&self, tuning: &[usize]) -> u32
         requires open_tuning { OpenTuning self.now.tables tuning.now }
-        ensures is_its_cost { result ≡ cost (S.join self.now.scale self.now.tables.limits.ceiling) self.now.tables tuning.now }
-        ensures capped_sum_on_the_sum_scale { S.join self.now.scale ≡ clamped sum_join → result ≡ min self.now.tables.limits.ceiling (sum (parts self.now.tables tuning.now)) }
-        ensures largest_on_the_worst_scale { S.join self.now.scale ≡ clamped worst_join → result ≡ min self.now.tables.limits.ceiling (largest (parts self.now.tables tuning.now)) }
+        ensures is_its_cost { result ≡ cost (at_ceiling S.join self.now) self.now.tables tuning.now }
+        ensures capped_sum_on_the_sum_scale { S.join self.now.scale ≡ clamped sum_join
+            → result ≡ min self.now.tables.limits.ceiling (sum (parts self.now.tables tuning.now)) }
+        ensures largest_on_the_worst_scale { S.join self.now.scale ≡ clamped worst_join
+            → result ≡ min self.now.tables.limits.ceiling (largest (parts self.now.tables tuning.now)) }
     {
-        let parts = self.tables.gather(tuning);
-        let number = 2 + self.tables.entries.number + self.tables.pairs.number;
-        joined_penalty(&self.scale, self.tables.limits.ceiling, &parts[0..number])
+        let parts = self.gather(tuning);
+        joined_penalty(&self.scale, self.tables.limits.ceiling, parts.as_slice())
     }
 }

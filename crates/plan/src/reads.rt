@@ -18,11 +18,7 @@ impl<S> Plan<S> {
     pub fn candidates(&self, entry: usize) -> Option<usize>
         ensures is_their_number { result ≡ (if nat_lt entry self.now.tables.entries.number then Some (count_of self.now.tables entry) else None) }
     {
-        if entry < self.tables.entries.number {
-            Some(self.tables.entries.counts[entry])
-        } else {
-            None
-        }
+        (entry < self.entries()).then(|| self.tables.entries.counts[entry])
     }
 
     // The number of pairs.
@@ -36,11 +32,7 @@ impl<S> Plan<S> {
     pub fn pair(&self, pair: usize) -> Option<(usize, usize)>
         ensures are_its_entries { result ≡ (if nat_lt pair self.now.tables.pairs.number then Some (first_of self.now.tables pair, second_of self.now.tables pair) else None) }
     {
-        if pair < self.tables.pairs.number {
-            Some(self.tables.pairs.ends[pair])
-        } else {
-            None
-        }
+        (pair < self.pairs()).then(|| self.tables.pairs.ends[pair])
     }
 
     pub fn floor(&self) -> u32
@@ -66,11 +58,7 @@ impl<S> Plan<S> {
         ensures is_its_place { result ≡ (if is_there self.now.tables entry candidate then Some (candidate_place entry candidate) else None) }
         ensures within { IfSome result (λ p. p < 128) }
     {
-        if entry < self.tables.entries.number && candidate < self.tables.entries.counts[entry] {
-            Some(8 * entry + candidate)
-        } else {
-            None
-        }
+        (candidate < self.candidates(entry)?).then(|| 8 * entry + candidate)
     }
 
     // The own penalty of a candidate.
@@ -92,13 +80,11 @@ impl<S> Plan<S> {
         ensures is_the_cell { result ≡ (if is_cell self.now.tables pair candidate choice then Some (cell_of self.now.tables pair candidate choice) else None) }
     {
         let (first, second) = self.pair(pair)?;
-        if candidate < self.tables.entries.counts[first]
-            && choice < self.tables.entries.counts[second]
-        {
-            Some(self.tables.pairs.cells[64 * pair + 8 * candidate + choice])
-        } else {
-            None
-        }
+        let counts = self.tables.entries.counts;
+        (candidate < counts[first] && choice < counts[second]).then(|| self.tables.pairs.cells[64
+            * pair
+            + 8 * candidate
+            + choice])
     }
 
     // What is in hand.

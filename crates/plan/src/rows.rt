@@ -1,31 +1,47 @@
-// Rows of cells: the least number of one, and changes to one.
-ghost use Rattle.std.specs.Prelude.{◌≡◌, ◌<◌, true, slice_set};
+// Numbers of open candidates: the least of them, and changes to them. Rows of cells.
+ghost use Rattle.std.specs.Prelude.{◌≡◌, ℕ, ◌<◌, true, length, slice_index, unwrap_or};
 ghost use Rattle.plan.specs.Invariant.{Sound};
-ghost use Rattle.plan.specs.Rows.{changed_one, lesser, is_at, other_of, row_place, row_least, row_changed};
-ghost use Rattle.plan.specs.Lifting.{with_cell_list, by_change};
+ghost use Rattle.plan.specs.Lifting.{with_cell_list};
+ghost use Rattle.plan.specs.Rows.{Computes, ComputesBelow, StaysBelow, is_marked, changed, least_where, is_at, other_of, row_place, row_least, row_changed};
 
+use crate::Plan;
 use crate::tables::Tables;
-use scale::Scale;
 
-// How an amount changes a number.
-#[derive(Clone, Copy)]
-pub enum Change {
-    TakeOff,
-    JoinTo,
+// The least of the numbers of the marked, 0 where none is marked.
+pub(crate) fn least_marked<F: Fn(usize) -> u32>(marks: &[bool], number: F) -> u32
+    requires reads { (k : ℕ) → k < length marks.now → F.pre number k }
+    ensures is_the_least { (f : ℕ → ℕ) → ComputesBelow (length marks.now) (F.post number) f
+        → result ≡ unwrap_or (least_where (is_marked marks.now) f (length marks.now)) 0 }
+{
+    let mut least: Option<u32> = None;
+    for (k, counts) in marks.iter().enumerate() {
+        if *counts {
+            let found = number(k);
+            least = Some(least.map_or(found, |low| low.min(found)));
+        }
+    }
+    least.unwrap_or(0)
 }
 
-pub(crate) fn changed_number<S: Scale>(
-    scale: &S,
-    ceiling: u32,
-    change: Change,
-    v: u32,
-    amount: u32,
-) -> u32
-    ensures is_changed { result ≡ by_change change (S.join scale.now ceiling) (S.rest scale.now ceiling) amount v }
+// Makes of each number at the place of a marked one what `change` makes of it.
+pub(crate) fn change_marked<P: Fn(usize) -> usize, F: Fn(u32) -> u32>(
+    marks: &[bool],
+    numbers: &mut [u32],
+    place: P,
+    change: F,
+)
+    requires places { (k : ℕ) → k < length marks.now → P.pre place k }
+    requires within { StaysBelow (length marks.now) (P.post place) (length numbers.old) }
+    requires changes { F.IsAlwaysCallable change }
+    ensures changes_them { (at by : ℕ → ℕ) → ComputesBelow (length marks.now) (P.post place) at
+        → Computes (F.post change) by
+        → numbers.new ≡ changed (is_marked marks.now) at by (length marks.now) numbers.old }
 {
-    match change {
-        Change::TakeOff => scale.rest(ceiling, v, amount),
-        Change::JoinTo => scale.join(ceiling, v, amount),
+    for (k, is_marked) in marks.iter().enumerate() {
+        if *is_marked {
+            let at = place(k);
+            numbers[at] = change(numbers[at]);
+        }
     }
 }
 
@@ -43,113 +59,66 @@ fn row_place(ahead: bool, p: usize, c: usize, k: usize) -> usize
 }
 
 impl Tables {
-    // Whether a pair is there and an entry is one of its two.
-    pub(crate) fn is_at(&self, entry: usize, pair: usize) -> bool
-        requires sound { Sound self.now }
-        ensures is_so { result ≡ is_at self.now entry pair }
-    {
-        pair < self.pairs.number
-            && (self.pairs.firsts[pair] == entry || self.pairs.seconds[pair] == entry)
-    }
-
+    // The other entry of a pair.
     fn other_of(&self, entry: usize, pair: usize) -> usize
         requires there { pair < 24 }
         ensures is_the_other { result ≡ other_of self.now entry pair }
     {
-        if self.pairs.firsts[pair] == entry {
-            self.pairs.seconds[pair]
-        } else {
-            self.pairs.firsts[pair]
-        }
+        let (first, second) = self.pairs.ends[pair];
+        if first == entry { second } else { first }
     }
 
-    // The least number of a row, 0 where it is empty.
-    pub(crate) fn row_least(&self, entry: usize, candidate: usize, pair: usize) -> u32
-        requires sound { Sound self.now }
-        requires at { is_at self.now entry pair ≡ true }
-        requires few { candidate < 8 }
-        ensures is_the_least { result ≡ row_least self.now entry candidate pair }
-    {
-        let ahead = self.pairs.firsts[pair] == entry;
-        let other = self.other_of(entry, pair);
-        let mut least: Option<u32> = None;
-        for k in 0..self.entries.counts[other] {
-            let number = self.pairs.cells[row_place(ahead, pair, candidate, k)];
-            least = lesser_of(self.entries.marks[8 * other + k], number, least);
-        }
-        least.unwrap_or(0)
-    }
-
-    fn put_cell(&mut self, at: usize, points: u32)
-        requires within { at < 1536 }
-        ensures puts_it { self.new ≡ with_cell_list self.old (slice_set self.old.pairs.cells at points) }
-    {
-        self.pairs.cells[at] = points;
-    }
-
-    // One cell of a row, if its candidate of the other entry is open.
-    fn change_cell<S: Scale>(
+    // Makes of each open cell of the row at a candidate of an entry what `change` makes of it.
+    pub(crate) fn change_row<F: Fn(u32) -> u32>(
         &mut self,
-        scale: &S,
-        change: Change,
-        is_open: bool,
-        at: usize,
-        amount: u32,
-    )
-        requires within { at < 1536 }
-        ensures changes_it { self.new ≡ with_cell_list self.old (changed_one is_open at (by_change change (S.join scale.now self.old.limits.ceiling) (S.rest scale.now self.old.limits.ceiling) amount) self.old.pairs.cells) }
-    {
-        if is_open {
-            let points = changed_number(
-                scale,
-                self.limits.ceiling,
-                change,
-                self.pairs.cells[at],
-                amount,
-            );
-            self.put_cell(at, points);
-        }
-    }
-
-    // The row at a candidate of an entry in a pair.
-    pub(crate) fn change_row<S: Scale>(
-        &mut self,
-        scale: &S,
-        change: Change,
         entry: usize,
         candidate: usize,
         pair: usize,
-        amount: u32,
+        change: F,
     )
         requires sound { Sound self.old }
         requires at { is_at self.old entry pair ≡ true }
         requires few { candidate < 8 }
-        ensures changes_it { self.new ≡ with_cell_list self.old (row_changed (by_change change (S.join scale.now self.old.limits.ceiling) (S.rest scale.now self.old.limits.ceiling) amount) self.old entry candidate pair) }
+        requires changes { F.IsAlwaysCallable change }
+        ensures changes_it { (by : ℕ → ℕ) → Computes (F.post change) by
+            → self.new ≡ with_cell_list self.old (row_changed by self.old entry candidate pair) }
     {
-        let ahead = self.pairs.firsts[pair] == entry;
+        let ahead = self.pairs.ends[pair].0 == entry;
         let other = self.other_of(entry, pair);
-        for k in 0..self.entries.counts[other] {
-            let is_open = self.entries.marks[8 * other + k];
-            self.change_cell(
-                scale,
-                change,
-                is_open,
-                row_place(ahead, pair, candidate, k),
-                amount,
-            );
-        }
+        let marks = self.entries.marks;
+        let start = 8 * other;
+        let end = start + self.entries.counts[other];
+        change_marked(
+            &marks[start..end],
+            &mut self.pairs.cells,
+            |k| row_place(ahead, pair, candidate, k),
+            change,
+        );
     }
 }
 
-// The lesser of a number, if it counts, and the least so far.
-pub(crate) fn lesser_of(counts: bool, number: u32, least: Option<u32>) -> Option<u32>
-    ensures is_the_lesser { result ≡ lesser counts number least }
-{
-    if !counts {
-        return least;
+impl<S> Plan<S> {
+    // Whether a pair is there and an entry is one of its two.
+    pub(crate) fn is_at(&self, entry: usize, pair: usize) -> bool
+        ensures is_so { result ≡ is_at self.now.tables entry pair }
+    {
+        self.pair(pair)
+            .is_some_and(|(first, second)| first == entry || second == entry)
     }
-    match least {
-        Some(low) => Some(low.min(number)),
-        None => Some(number),
+
+    // The least number of a row, 0 where it is empty.
+    pub(crate) fn row_least(&self, entry: usize, candidate: usize, pair: usize) -> u32
+        requires at { is_at self.now.tables entry pair ≡ true }
+        requires few { candidate < 8 }
+        ensures is_the_least { result ≡ row_least self.now.tables entry candidate pair }
+    {
+        let ahead = self.tables.pairs.ends[pair].0 == entry;
+        let other = self.tables.other_of(entry, pair);
+        let start = 8 * other;
+        let end = start + self.tables.entries.counts[other];
+        least_marked(
+            &self.tables.entries.marks[start..end],
+            |k| self.tables.pairs.cells[row_place(ahead, pair, candidate, k)],
+        )
     }
 }

@@ -1,7 +1,9 @@
 // Settling a plan by sweeps.
-ghost use Rattle.std.specs.Prelude.{◌≡◌, ◌<◌, ◌≤◌, true, IfOk, Ok, Err};
+ghost use Rattle.std.specs.Prelude.{◌≡◌, ◌≤◌, true, IfOk, OnErr};
 ghost use Rattle.plan.specs.Keeping.{Keeps};
-ghost use Rattle.plan.specs.Settling.{same_numbers, same_marks, unchanged, as_progress, as_settled, one_more, after_sweeps, settle_refusal, settle_answer, settle_after};
+ghost use Rattle.plan.specs.Plans.{at_ceiling};
+ghost use Rattle.plan.specs.Refusing.{Finds};
+ghost use Rattle.plan.specs.Settling.{unchanged, as_settled, after_sweeps, settle_refusal, settle_answer, settle_after};
 ghost use Rattle.plan.specs.Sweeps.{sweep as swept_once};
 
 use crate::Plan;
@@ -12,17 +14,15 @@ use scale::Scale;
 // The most sweeps that a call makes.
 const MOST_SWEEPS: u32 = 16;
 
-// Whether two lists of numbers are the same, and two lists of marks.
-fn same_numbers(before: &[u32], after: &[u32]) -> bool
-    ensures is_so { result ≡ same_numbers before.now after.now }
+// A number of sweeps is allowed.
+fn check_settle(sweeps: u32) -> Result<(), Refusal>
+    ensures is_the_first_refusal { Finds (settle_refusal sweeps) result }
 {
-    before == after
-}
-
-fn same_marks(before: &[bool], after: &[bool]) -> bool
-    ensures is_so { result ≡ same_marks before.now after.now }
-{
-    before == after
+    if sweeps > MOST_SWEEPS {
+        Err(Refusal::TooManySweeps)
+    } else {
+        Ok(())
+    }
 }
 
 impl Tables {
@@ -31,87 +31,61 @@ impl Tables {
         ensures is_so { result ≡ unchanged before.now self.now }
     {
         before.limits.floor == self.limits.floor
-            && same_numbers(&before.entries.own, &self.entries.own)
-            && same_marks(&before.entries.marks, &self.entries.marks)
-            && same_numbers(&before.pairs.cells, &self.pairs.cells)
+            && before.entries.own == self.entries.own
+            && before.entries.marks == self.entries.marks
+            && before.pairs.cells == self.pairs.cells
     }
 }
 
 impl<S: Scale> Plan<S> {
-    // One sweep more, unless the last changed nothing.
-    fn sweep_more(&mut self, so_far: Settled) -> Settled
-        requires few { so_far.sweeps < 16 }
-        ensures answers { result ≡ as_settled (one_more (S.join self.old.scale self.old.tables.limits.ceiling) (S.rest self.old.scale self.old.tables.limits.ceiling) (as_progress so_far self.old.tables)) }
-        ensures leaves { self.new.tables ≡ (one_more (S.join self.old.scale self.old.tables.limits.ceiling) (S.rest self.old.scale self.old.tables.limits.ceiling) (as_progress so_far self.old.tables)).tables }
-        ensures keeps_its_scale { self.new.scale ≡ self.old.scale }
-    {
-        if so_far.stable {
-            return so_far;
-        }
-        let before = self.tables;
-        self.sweep();
-        Settled {
-            sweeps: so_far.sweeps + 1,
-            stable: self.tables.is_unchanged(&before),
-        }
-    }
-
-    // Up to a number of sweeps.
-    fn sweep_on(&mut self, sweeps: u32) -> Settled
-        requires few { sweeps ≤ 16 }
-        ensures answers { result ≡ as_settled (after_sweeps (S.join self.old.scale self.old.tables.limits.ceiling) (S.rest self.old.scale self.old.tables.limits.ceiling) sweeps self.old.tables) }
-        ensures leaves { self.new.tables ≡ (after_sweeps (S.join self.old.scale self.old.tables.limits.ceiling) (S.rest self.old.scale self.old.tables.limits.ceiling) sweeps self.old.tables).tables }
-        ensures keeps_its_scale { self.new.scale ≡ self.old.scale }
-    {
-        let mut so_far = Settled {
-            sweeps: 0,
-            stable: false,
-        };
-        for k in 0..sweeps {
-            so_far = self.sweep_more(so_far);
-        }
-        so_far
-    }
-
-    // The same, with what it keeps and what it comes to.
+    // Up to a number of sweeps, until one changes nothing.
     fn settled(&mut self, sweeps: u32) -> Settled
         requires few { sweeps ≤ 16 }
-        ensures answers { result ≡ as_settled (after_sweeps (S.join self.old.scale self.old.tables.limits.ceiling) (S.rest self.old.scale self.old.tables.limits.ceiling) sweeps self.old.tables) }
-        ensures leaves { self.new.tables ≡ (after_sweeps (S.join self.old.scale self.old.tables.limits.ceiling) (S.rest self.old.scale self.old.tables.limits.ceiling) sweeps self.old.tables).tables }
+        ensures answers { result ≡ as_settled (after_sweeps (at_ceiling S.join self.old) (at_ceiling S.rest self.old)
+            sweeps self.old.tables) }
+        ensures leaves { self.new.tables ≡ (after_sweeps (at_ceiling S.join self.old) (at_ceiling S.rest self.old)
+            sweeps self.old.tables).tables }
         ensures keeps_its_scale { self.new.scale ≡ self.old.scale }
         ensures keeps_the_hand { self.new.tables.hand ≡ self.old.tables.hand }
-        ensures keeps_every_cheap_tuning { Keeps (S.join self.old.scale self.old.tables.limits.ceiling) self.old.tables self.new.tables }
-        ensures stable_where_a_sweep_changes_nothing { result.stable ≡ true → swept_once (S.join self.old.scale self.old.tables.limits.ceiling) (S.rest self.old.scale self.old.tables.limits.ceiling) self.new.tables ≡ self.new.tables }
+        ensures keeps_every_cheap_tuning { Keeps (at_ceiling S.join self.old) self.old.tables self.new.tables }
+        ensures stable_where_a_sweep_changes_nothing { result.stable ≡ true
+            → swept_once (at_ceiling S.join self.old) (at_ceiling S.rest self.old) self.new.tables
+            ≡ self.new.tables }
     {
-        self.sweep_on(sweeps)
-    }
-
-    fn settle_refusal(&self, sweeps: u32) -> Option<Refusal>
-        ensures is_the_refusal { result ≡ settle_refusal sweeps }
-        ensures leaves_all { Keeps (S.join self.now.scale self.now.tables.limits.ceiling) self.now.tables self.now.tables }
-    {
-        if sweeps > MOST_SWEEPS {
-            Some(Refusal::TooManySweeps)
-        } else {
-            None
+        for made in 0..sweeps {
+            let before = self.tables;
+            self.sweep();
+            if self.tables.is_unchanged(&before) {
+                return Settled {
+                    sweeps: made + 1,
+                    stable: true,
+                };
+            }
+        }
+        Settled {
+            sweeps,
+            stable: false,
         }
     }
 
     // Makes up to a number of sweeps, 16 at most, and stops after one that changed nothing. In a sweep each pair in order
     // moves the least of each row to the own penalty, each entry moves its least own penalty to the floor, and each
     // candidate that may be closed is closed.
+    #[tactic(auto, using(crate::proofs::Keepings::keeps_refl))]
     pub fn settle(&mut self, sweeps: u32) -> Result<Settled, Refusal>
-        ensures answers { result ≡ settle_answer (S.join self.old.scale self.old.tables.limits.ceiling) (S.rest self.old.scale self.old.tables.limits.ceiling) self.old.tables sweeps }
-        ensures leaves { self.new.tables ≡ settle_after (S.join self.old.scale self.old.tables.limits.ceiling) (S.rest self.old.scale self.old.tables.limits.ceiling) self.old.tables sweeps }
-        ensures refusal_changes_nothing { elim result [ Ok _ ↦ Unit {0} | Err _ ↦ self.new.tables ≡ self.old.tables ] }
+        ensures answers { result ≡ settle_answer (at_ceiling S.join self.old) (at_ceiling S.rest self.old)
+            self.old.tables sweeps }
+        ensures leaves { self.new.tables ≡ settle_after (at_ceiling S.join self.old) (at_ceiling S.rest self.old)
+            self.old.tables sweeps }
+        ensures refusal_changes_nothing { OnErr result (self.new.tables ≡ self.old.tables) }
         ensures keeps_its_scale { self.new.scale ≡ self.old.scale }
         ensures keeps_the_hand { self.new.tables.hand ≡ self.old.tables.hand }
-        ensures keeps_every_cheap_tuning { Keeps (S.join self.old.scale self.old.tables.limits.ceiling) self.old.tables self.new.tables }
-        ensures stable_where_a_sweep_changes_nothing { IfOk result (λ settled. settled.stable ≡ true → swept_once (S.join self.old.scale self.old.tables.limits.ceiling) (S.rest self.old.scale self.old.tables.limits.ceiling) self.new.tables ≡ self.new.tables) }
+        ensures keeps_every_cheap_tuning { Keeps (at_ceiling S.join self.old) self.old.tables self.new.tables }
+        ensures stable_where_a_sweep_changes_nothing { IfOk result (λ settled. settled.stable ≡ true
+            → swept_once (at_ceiling S.join self.old) (at_ceiling S.rest self.old) self.new.tables
+            ≡ self.new.tables) }
     {
-        if let Some(refusal) = self.settle_refusal(sweeps) {
-            return Err(refusal);
-        }
+        check_settle(sweeps)?;
         Ok(self.settled(sweeps))
     }
 }

@@ -4,7 +4,8 @@ ghost use Rattle.plan.specs.Lifting.{lift_token};
 
 use crate::tables::Hand;
 
-// An amount that was lifted for a candidate. It may be let go only once a set-down has spent it.
+// An amount that was lifted for a candidate. It may be let go only once a set-down has spent it: `spent` is what its
+// drop demands, a rule of the project, and no token says so before it is gone.
 pub struct Token {
     entry: usize,
     candidate: usize,
@@ -26,9 +27,14 @@ impl Drop for Token {
 }
 
 impl Token {
-    pub(crate) fn of(entry: usize, candidate: usize, amount: u32) -> Token
-        ensures is_unspent { result ≡ lift_token entry candidate amount }
+    pub(crate) fn of(held: Hand) -> Token
+        ensures is_unspent { result ≡ lift_token held.entry held.candidate held.amount }
     {
+        let Hand {
+            entry,
+            candidate,
+            amount,
+        } = held;
         Token {
             entry,
             candidate,
@@ -56,23 +62,5 @@ impl Token {
             candidate: self.candidate,
             amount: self.amount,
         }
-    }
-
-    pub(crate) fn entry(&self) -> usize
-        ensures is_its_entry { result ≡ self.now.entry }
-    {
-        self.entry
-    }
-
-    pub(crate) fn candidate(&self) -> usize
-        ensures is_its_candidate { result ≡ self.now.candidate }
-    {
-        self.candidate
-    }
-
-    pub(crate) fn amount(&self) -> u32
-        ensures is_its_amount { result ≡ self.now.amount }
-    {
-        self.amount
     }
 }

@@ -6,10 +6,8 @@ use Rattle.plan.proofs.Plan.row_to_own.Goals as goal
 
 pub invariant_of-self : goal.invariant_of-self
 invariant_of-self g c =
-    let x = c.args.self.now.tables in
-    let sound = c.args.self.now.sound in
-    let scale = c.args.self.now.scale in
-    let law = laws_of x sound (g.S.Scale.join scale) (g.S.Scale.rest scale) (g.met.S.Scale.lawful scale) in
+    let x = c.args.self.now in
+    let law = laws_of g.met.S.Scale.lawful x in
     let least = c.row_least-least.ensures.is_the_least in
-    let swept = moved_to_own_swept law x sound refl c.row_least-least.result c.args.entry c.args.pair c.args.candidate c.requires.there c.requires.at (omega arith) in
+    let swept = moved_to_own_swept law x.tables x.sound refl c.row_least-least.result c.args.entry c.args.pair c.args.candidate c.requires.there c.requires.at (omega arith) in
     record { sound = subst Sound (sym c.move_to_own.ensures.moves_it) swept.sound }

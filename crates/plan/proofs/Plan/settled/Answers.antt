@@ -1,30 +1,50 @@
-use Rattle.std.proofs.Common.{sym, refl, ap, ◌∙◌, subst}
-use Rattle.plan.specs.declared.tables.Settled.{Settled}
-use Rattle.plan.specs.declared.tables.Tables.{Tables}
-use Rattle.plan.specs.Keeping.{Keeps}
+use Rattle.std.proofs.Common.{◌≡◌, ℕ, ◌+◌, false, refl, arith}
+use Rattle.plan.specs.Plans.{at_ceiling}
 use Rattle.plan.specs.Sweeps.{sweep}
 use Rattle.plan.proofs.Laws.{laws_of}
-use Rattle.plan.proofs.StableTables.{stable_stays}
-use Rattle.plan.proofs.SweptTables.{Frame, after_sweeps_swept}
+use Rattle.plan.proofs.StableTables.{sweep_more, ends_stable, settles}
+use Rattle.plan.proofs.Turns.{next_step, frame_on}
 use Rattle.plan.proofs.Plan.settled.Goals as goal
+
+pub returns-then-is_unchanged : goal.returns-then-is_unchanged
+returns-then-is_unchanged g c =
+    let x = c.args.self.now in
+    let y = c.loop-made.self in
+    let z = c.sweep.new.self in
+    let swept = next_step (λ s (d : ℕ). sweep (g.S.Scale.join s d) (g.S.Scale.rest s d)) x y z y.tables refl c.loop-made.invariant.1 c.sweep.ensures.sweeps in
+    let more = sweep_more (at_ceiling g.S.Scale.join x) (at_ceiling g.S.Scale.rest x) x.tables c.loop-made.made y.tables z.tables _ c.loop-made.invariant.0 swept c.if-is_unchanged.ensures.is_so in
+    let done = ends_stable (at_ceiling g.S.Scale.join x) (at_ceiling g.S.Scale.rest x) x.tables (c.loop-made.made + 1) c.args.sweeps _ (omega arith) more refl in
+    let all = settles (laws_of g.met.S.Scale.lawful x) x.tables x.sound refl c.args.sweeps z.tables _ done in
+    let keeps = frame_on x y z c.loop-made.invariant.1 c.sweep.ensures.keeps_its_frame in
+    record {
+      answers = all.answers;
+      leaves = all.leaves;
+      keeps_its_scale = keeps.same_scale;
+      keeps_the_hand = all.same_hand;
+      keeps_every_cheap_tuning = all.keeps;
+      stable_where_a_sweep_changes_nothing = all.stable_stays;
+    }
+
+pub loop-made-preserved : goal.loop-made-preserved
+loop-made-preserved g c =
+    let x = c.args.self.now in
+    let y = c.loop-made.self in
+    let z = c.sweep.new.self in
+    let swept = next_step (λ s (d : ℕ). sweep (g.S.Scale.join s d) (g.S.Scale.rest s d)) x y z y.tables refl c.loop-made.invariant.1 c.sweep.ensures.sweeps in
+    (sweep_more (at_ceiling g.S.Scale.join x) (at_ceiling g.S.Scale.rest x) x.tables c.loop-made.made y.tables z.tables false c.loop-made.invariant.0 swept c.if-is_unchanged.ensures.is_so, frame_on x y z c.loop-made.invariant.1 c.sweep.ensures.keeps_its_frame)
 
 pub returns : goal.returns
 returns g c =
-    let x = c.args.self.now.tables in
-    let sound = c.args.self.now.sound in
-    let scale = c.args.self.now.scale in
-    let law = laws_of x sound (g.S.Scale.join scale) (g.S.Scale.rest scale) (g.met.S.Scale.lawful scale) in
-    let n = c.args.sweeps in
-    let join = g.S.Scale.join scale x.limits.ceiling in
-    let rest = g.S.Scale.rest scale x.limits.ceiling in
-    let answers = c.sweep_on.ensures.answers in
-    let leaves = c.sweep_on.ensures.leaves in
+    let x = c.args.self.now in
+    let y = c.loop-made.self in
+    let end : c.loop-made.made ≡ c.args.sweeps = omega arith in
+    let done = rw end at c.loop-made.invariant.0 in
+    let all = settles (laws_of g.met.S.Scale.lawful x) x.tables x.sound refl c.args.sweeps y.tables (record { sweeps = c.args.sweeps; stable = false }) done in
     record {
-      answers = answers;
-      leaves = leaves;
-      keeps_its_scale = c.sweep_on.ensures.keeps_its_scale;
-      keeps_the_hand = ap (λ (y : Tables). y.hand) leaves ∙ ap (λ (f : Frame). f.hand) (after_sweeps_swept law x sound refl n).same_frame;
-      keeps_every_cheap_tuning = subst (λ (y : Tables). Keeps join x y) (sym leaves) (after_sweeps_swept law x sound refl n).keeps;
-      stable_where_a_sweep_changes_nothing = λ stable.
-          ap (sweep join rest) leaves ∙ stable_stays law x sound refl n (sym (ap (λ (s : Settled). s.stable) answers) ∙ stable) ∙ sym leaves;
+      answers = all.answers;
+      leaves = all.leaves;
+      keeps_its_scale = c.loop-made.invariant.1.same_scale;
+      keeps_the_hand = all.same_hand;
+      keeps_every_cheap_tuning = all.keeps;
+      stable_where_a_sweep_changes_nothing = all.stable_stays;
     }

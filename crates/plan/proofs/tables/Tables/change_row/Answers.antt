@@ -1,21 +1,20 @@
-use Rattle.std.proofs.Common.{ℕ, arith}
-use Rattle.plan.specs.Lifting.{by_change}
-use Rattle.plan.specs.Rows.{is_first, row_place}
-use Rattle.plan.proofs.RowSteps.{row_more, row_all}
+use Rattle.std.proofs.Common.{rules, ◌≡◌, ℕ, ◌<◌, ap, ◌∙◌, arith}
+use Rattle.plan.specs.Layout.{count_of, open_at}
+use Rattle.plan.specs.Lifting.{with_cell_list}
+use Rattle.plan.specs.Rows.{changed, is_first, row_place}
+use Rattle.plan.proofs.RowSteps.{marks_of, changed_of}
 use Rattle.plan.proofs.tables.Tables.change_row.Goals as goal
-
-pub loop-k-preserved : goal.loop-k-preserved
-loop-k-preserved g c =
-    let x = c.args.self.now in
-    let by = λ (ceiling : ℕ). by_change c.args.change (g.S.Scale.join c.args.scale.now ceiling) (g.S.Scale.rest c.args.scale.now ceiling) c.args.amount in
-    row_more x c.loop-k.self c.change_cell.new.self by c.other_of-other.result c.loop-k.k c.row_place.result
-    (row_place (is_first x c.args.entry c.args.pair) c.args.pair c.args.candidate) c.loop-k.invariant c.row_place.ensures.is_its_place c.change_cell.ensures.changes_it
 
 pub returns : goal.returns
 returns g c =
     let x = c.args.self.now in
-    let by = by_change c.args.change (g.S.Scale.join c.args.scale.now x.limits.ceiling) (g.S.Scale.rest c.args.scale.now x.limits.ceiling) c.args.amount in
+    let o = c.other_of-other.result in
+    let place = row_place (is_first x c.args.entry c.args.pair) c.args.pair c.args.candidate in
+    let low : o < 16 = search rules in
     record {
-      changes_it =
-          row_all x c.loop-k.self by c.args.entry c.args.candidate c.args.pair c.other_of-other.result c.loop-k.k c.other_of-other.ensures.is_the_other (omega arith) c.loop-k.invariant;
+      changes_it = λ by computes.
+          ap (with_cell_list x)
+          (c.change_marked.ensures.changes_them place by (λ k answer h is. search rules) computes
+          ∙ changed_of x o _ (marks_of x c.requires.sound o _ low (omega arith)) place by x.pairs.cells
+          ∙ ap (λ (i : ℕ). changed (open_at x i) place by (count_of x i) x.pairs.cells) c.other_of-other.ensures.is_the_other);
     }
