@@ -80,11 +80,8 @@ impl<S> Plan<S> {
         ensures is_the_cell { result ≡ (if is_cell self.now.tables pair candidate choice then Some (cell_of self.now.tables pair candidate choice) else None) }
     {
         let (first, second) = self.pair(pair)?;
-        let counts = self.tables.entries.counts;
-        (candidate < counts[first] && choice < counts[second]).then(|| self.tables.pairs.cells[64
-            * pair
-            + 8 * candidate
-            + choice])
+        let is_there = candidate < self.candidates(first)? && choice < self.candidates(second)?;
+        is_there.then(|| self.tables.pairs.cells[64 * pair + 8 * candidate + choice])
     }
 
     // What is in hand.
