@@ -8,10 +8,11 @@ use plan::refusals::Refusal;
 use plan::token::Token;
 use scale::Scale;
 
-// Sets a token down to the own penalty, which takes every token that is in hand. The crate
-// random_calls has its twin: as one public function it would leave its `requires` to callers.
+// Sets a token down to the own penalty, which takes every token that is in hand. Its twin in
+// random_calls stays: shared, it would be a public function with a `requires`, which is no plainer.
 fn set_to_own<S: Scale>(plan: &mut Plan<S>, token: Token)
-    requires in_hand { is_in_hand plan.old.tables.hand token.entry token.candidate token.amount ≡ true }
+    requires in_hand { is_in_hand plan.old.tables.hand
+        token.entry token.candidate token.amount ≡ true }
 {
     match plan.set_down(token, Place::OwnPenalty) {
         Ok(()) => {}
