@@ -2,6 +2,7 @@
 use Rattle.std.specs.Prelude.{◌≡◌, ℕ, List, [], ◌∷◌, Ok, Err}
 use Rattle.scale.specs.Ceilings.{clamped}
 use Rattle.scale.specs.Sums.{sum_join, sum_rest}
+use Rattle.plan.specs.declared.place.Place.{Place}
 use Rattle.plan.specs.declared.place.Place.TheVariants.{OwnPenalty, Row}
 use Rattle.plan.specs.declared.records.PairRecord.{PairRecord}
 use Rattle.plan.specs.declared.refusals.Refusal.TheVariants.{AmountOutOfRange}
@@ -12,7 +13,13 @@ use Rattle.plan.specs.Lifting.{lift_token, lift_answer, lift_after, set_after}
 use Rattle.plan.specs.Numbers.{number_of}
 
 abbrev at : ℕ → ℕ → ℕ → ℕ → ℕ → PairRecord
-at e c o k points = record { entry = e; candidate = c; other = o; choice = k; points = points }
+at first candidate second choice points = record {
+  entry = first;
+  candidate = candidate;
+  other = second;
+  choice = choice;
+  points = points;
+}
 
 -- a candidate with the row 2, 3
 abbrev pub row_two_three : Tables
@@ -26,18 +33,32 @@ pub record AmountCases : Type 0 where
 
 -- three entries of three candidates; pair 0 costs 2 and pair 1 costs 1 wherever the first candidate is not below the second
 abbrev not_below : ℕ → ℕ → ℕ → List PairRecord → List PairRecord
-not_below e o points more =
-    at e 0 o 0 points ∷ at e 1 o 0 points ∷ at e 1 o 1 points ∷ at e 2 o 0 points ∷ at e 2 o 1 points ∷ at e 2 o 2 points ∷ more
+not_below first second points more =
+    at first 0 second 0 points
+    ∷ at first 1 second 0 points
+    ∷ at first 1 second 1 points
+    ∷ at first 2 second 0 points
+    ∷ at first 2 second 1 points
+    ∷ at first 2 second 2 points
+    ∷ more
 
 abbrev pub three_entries : Tables
-three_entries = filled_tables 100 (3 ∷ 3 ∷ 3 ∷ []) (0 ∷ 0 ∷ 0 ∷ 0 ∷ 0 ∷ 0 ∷ 0 ∷ 0 ∷ 0 ∷ []) (not_below 0 1 2 (not_below 1 2 1 []))
+three_entries =
+    filled_tables 100 (3 ∷ 3 ∷ 3 ∷ []) (0 ∷ 0 ∷ 0 ∷ 0 ∷ 0 ∷ 0 ∷ 0 ∷ 0 ∷ 0 ∷ [])
+    (not_below 0 1 2 (not_below 1 2 1 []))
 
--- an amount lifted from a row and set down to the own penalty is projected; from the own penalty to a row it is extended
+-- an amount of a candidate is lifted from one place and set down to another
+abbrev pub moved : Tables → Place → Place → ℕ → ℕ → ℕ → Tables
+moved tables from to entry candidate amount =
+    set_after (clamped sum_join 100) (lift_after (clamped sum_rest 100) tables from entry candidate amount)
+    entry candidate amount to
+
+-- from a row to the own penalty it is projected; from the own penalty to a row it is extended
 abbrev pub projected : Tables → ℕ → ℕ → ℕ → ℕ → Tables
-projected x p e c amount = set_after (clamped sum_join 100) (lift_after (clamped sum_rest 100) x (Row p) e c amount) e c amount OwnPenalty
+projected tables pair entry candidate amount = moved tables (Row pair) OwnPenalty entry candidate amount
 
 abbrev pub extended : Tables → ℕ → ℕ → ℕ → ℕ → Tables
-extended x p e c amount = set_after (clamped sum_join 100) (lift_after (clamped sum_rest 100) x OwnPenalty e c amount) e c amount (Row p)
+extended tables pair entry candidate amount = moved tables OwnPenalty (Row pair) entry candidate amount
 
 -- 2 is projected to (0, 2) and 1 to (1, 2), and that 1 is extended to pair 0
 abbrev pub moved_twice : Tables

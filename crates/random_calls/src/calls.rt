@@ -3,40 +3,33 @@ ghost use Rattle.std.specs.Prelude.{◌≡◌, true};
 ghost use Rattle.plan.specs.Lifting.{is_in_hand};
 
 use crate::dice::Dice;
-use crate::lists_of_three::{Lists, filled_cost, number_at, random_lists};
+use crate::lists_of_three::Lists;
 use plan::Plan;
 use plan::place::Place;
 use plan::token::Token;
 use scale::Scale;
 use scale::sum::SumScale;
 use scale::worst::WorstScale;
-use std::alloc::Global;
+use std::alloc::{AllocError, Global};
 use std::process::Abort;
 use std::test::Fail;
 
-// Whether a tuning is open and costs its filled cost, or its filled cost is at least the bound.
-fn is_kept<S: Scale>(plan: &Plan<S>, scale: &S, lists: &Lists, tuning: &[usize; 3]) -> bool {
-    let filled = filled_cost(scale, lists, tuning);
-    match plan.cost(tuning) {
-        Ok(cost) => cost == filled,
-        Err(_) => filled >= plan.bound(),
-    }
+// How many lifts, lowerings and closings were accepted, and how many sweeps settlings made.
+#[derive(Clone, Copy, Default)]
+struct Tally {
+    lifts: u32,
+    lowerings: u32,
+    closings: u32,
+    sweeps: u32,
 }
 
-// Whether all tunings are.
-fn all_kept<S: Scale>(plan: &Plan<S>, scale: &S, lists: &Lists) -> bool {
-    let mut kept = true;
-    for i in 0..27 {
-        let tuning = [i % 3, i / 3 % 3, i / 9];
-        if tuning[0] < number_at(&lists.counts, 0)
-            && tuning[1] < number_at(&lists.counts, 1)
-            && tuning[2] < number_at(&lists.counts, 2)
-            && !is_kept(plan, scale, lists, &tuning)
-        {
-            kept = false;
-        }
+impl Tally {
+    fn add(&mut self, other: Tally) {
+        self.lifts = self.lifts.saturating_add(other.lifts);
+        self.lowerings = self.lowerings.saturating_add(other.lowerings);
+        self.closings = self.closings.saturating_add(other.closings);
+        self.sweeps = self.sweeps.saturating_add(other.sweeps);
     }
-    kept
 }
 
 // A place, there or not.
@@ -47,92 +40,147 @@ fn place(dice: &mut Dice) -> Place {
     }
 }
 
-// A closing, a lowering or a settling, accepted or refused.
-fn plain_call<S: Scale>(plan: &mut Plan<S>, dice: &mut Dice)
-    ensures keeps_the_hand { plan.new.tables.hand ≡ plan.old.tables.hand }
-{
-    match dice.below(12) {
-        0 => {
-            let _lowered = plan.lower(1 + dice.below(30));
-        }
-        1 => {
-            let _settled = plan.settle(dice.below(4));
-        }
-        _ => {
-            let _closed = plan.close(dice.place(4), dice.place(4));
-        }
-    }
+// A plan in play, with the lists that it was filled from and the dice that choose its calls.
+#[derive(Drop)]
+struct Game<S> {
+    scale: S,
+    lists: Lists,
+    plan: Plan<S>,
+    dice: Dice,
+    tally: Tally,
 }
 
-// Sets a token down to the own penalty, which takes every token that is in hand.
-fn set_to_own<S: Scale>(plan: &mut Plan<S>, token: Token)
-    requires in_hand { is_in_hand plan.old.tables.hand token.entry token.candidate token.amount ≡ true }
-{
-    match plan.set_down(token, Place::OwnPenalty) {
-        Ok(()) => {}
-        Err((_, _)) => unreachable(),
+impl<S: Scale + Copy> Game<S> {
+    // A plan that made-up lists fill.
+    fn start(rt: &impl Abort, heap: Global, scale: S, number: u64) -> Result<Game<S>, AllocError> {
+        let mut dice = Dice::new(number);
+        let lists = Lists::random(heap, &mut dice)?;
+        let mut plan = Plan::new(scale);
+        assert!(rt;
+            plan.fill(lists.ceiling, &lists.counts, &lists.own, &lists.pairs)
+                .is_ok()
+        );
+        Ok(Game {
+            scale,
+            lists,
+            plan,
+            dice,
+            tally: Tally::default(),
+        })
     }
-}
 
-// A set-down to a place, there or not; a refused token goes to the own penalty.
-fn set_somewhere<S: Scale>(plan: &mut Plan<S>, dice: &mut Dice, token: Token)
-    requires in_hand { is_in_hand plan.old.tables.hand token.entry token.candidate token.amount ≡ true }
-{
-    match plan.set_down(token, place(dice)) {
-        Ok(()) => {}
-        Err((_, returned)) => set_to_own(plan, returned),
-    }
-}
-
-// A lift and, where it is accepted, a call and a set-down; whether all tunings are kept meanwhile.
-fn lift_call<S: Scale>(
-    plan: &mut Plan<S>,
-    scale: &S,
-    lists: &Lists,
-    dice: &mut Dice,
-    lifts: &mut u32,
-) -> bool {
-    let from = place(dice);
-    match plan.lift(from, dice.place(4), dice.place(3), dice.below(4)) {
-        Err(_) => true,
-        Ok(token) => {
-            *lifts = lifts.saturating_add(1);
-            let lifted = all_kept(plan, scale, lists);
-            plain_call(plan, dice);
-            let called = all_kept(plan, scale, lists);
-            set_somewhere(plan, dice, token);
-            lifted && called
+    // Whether a tuning is open and costs its filled cost, or its filled cost is at least the bound.
+    fn is_kept(&self, tuning: &[usize; 3]) -> bool {
+        let filled = self.lists.filled_cost(&self.scale, tuning);
+        match self.plan.cost(tuning) {
+            Ok(cost) => cost == filled,
+            Err(_) => filled >= self.plan.bound(),
         }
     }
-}
 
-// A list of calls on a filled plan; how many lifts were accepted.
-fn play<S: Scale + Copy>(rt: &impl Abort, heap: Global, scale: S, start: u64) -> Result<u32, Fail> {
-    let mut dice = Dice::new(start);
-    let lists = random_lists(heap, &mut dice)?;
-    let mut plan = Plan::new(scale);
-    assert!(rt;
-        plan.fill(lists.ceiling, &lists.counts, &lists.own, &lists.pairs)
-            .is_ok()
-    );
-    let mut lifts = 0;
-    for _ in 0..16 {
-        if dice.below(3) == 0 {
-            plain_call(&mut plan, &mut dice);
+    // Whether all tunings are.
+    fn all_kept(&self) -> bool {
+        let [first, second, third] = self.lists.counts;
+        (0..first).all(|a| (0..second).all(|b| (0..third).all(|c| self.is_kept(&[a, b, c]))))
+    }
+
+    // A closing, a lowering or a settling, accepted or refused.
+    fn plain_call(&mut self)
+        ensures keeps_the_hand { self.new.plan.tables.hand ≡ self.old.plan.tables.hand }
+    {
+        match self.dice.below(12) {
+            0 => {
+                if self.plan.lower(1 + self.dice.below(30)).is_ok() {
+                    self.tally.lowerings = self.tally.lowerings.saturating_add(1);
+                }
+            }
+            1 => {
+                if let Ok(settled) = self.plan.settle(self.dice.below(4)) {
+                    self.tally.sweeps = self.tally.sweeps.saturating_add(settled.sweeps);
+                }
+            }
+            _ => {
+                if self
+                    .plan
+                    .close(self.dice.place(4), self.dice.place(4))
+                    .is_ok()
+                {
+                    self.tally.closings = self.tally.closings.saturating_add(1);
+                }
+            }
+        }
+    }
+
+    // Sets a token down to the own penalty, which takes every token that is in hand. Its twin in
+    // trials stays: shared, it would be a public function with a `requires`, which is no plainer.
+    fn set_to_own(&mut self, token: Token)
+        requires in_hand { is_in_hand self.old.plan.tables.hand
+            token.entry token.candidate token.amount ≡ true }
+    {
+        match self.plan.set_down(token, Place::OwnPenalty) {
+            Ok(()) => {}
+            Err((_, _)) => unreachable(),
+        }
+    }
+
+    // A set-down to a place, there or not; a refused token goes to the own penalty.
+    fn set_somewhere(&mut self, token: Token)
+        requires in_hand { is_in_hand self.old.plan.tables.hand
+            token.entry token.candidate token.amount ≡ true }
+    {
+        match self.plan.set_down(token, place(&mut self.dice)) {
+            Ok(()) => {}
+            Err((_, returned)) => self.set_to_own(returned),
+        }
+    }
+
+    // A lift and, where it is accepted, a call and a set-down; all tunings are kept meanwhile.
+    fn lift_call(&mut self, rt: &impl Abort) {
+        let from = place(&mut self.dice);
+        let (entry, candidate) = (self.dice.place(4), self.dice.place(3));
+        if let Ok(token) = self.plan.lift(from, entry, candidate, self.dice.below(4)) {
+            self.tally.lifts = self.tally.lifts.saturating_add(1);
+            assert!(rt; self.all_kept());
+            self.plain_call();
+            assert!(rt; self.all_kept());
+            self.set_somewhere(token);
+        }
+    }
+
+    // A call of either kind; all tunings are kept after it.
+    fn call(&mut self, rt: &impl Abort) {
+        if self.dice.below(3) == 0 {
+            self.plain_call();
         } else {
-            assert!(rt; lift_call(&mut plan, &scale, &lists, &mut dice, &mut lifts));
+            self.lift_call(rt);
         }
-        assert!(rt; all_kept(&plan, &scale, &lists));
+        assert!(rt; self.all_kept());
     }
-    Ok(lifts)
+}
+
+// A list of calls on a filled plan; what was accepted.
+fn play<S: Scale + Copy>(
+    rt: &impl Abort,
+    heap: Global,
+    scale: S,
+    number: u64,
+) -> Result<Tally, AllocError> {
+    let mut game = Game::start(rt, heap, scale, number)?;
+    for _ in 0..16 {
+        game.call(rt);
+    }
+    Ok(game.tally)
 }
 
 fn play_many<S: Scale + Copy>(rt: &impl Abort, heap: Global, scale: S) -> Result<(), Fail> {
-    let mut lifts: u32 = 0;
-    for start in 0..400 {
-        lifts = lifts.saturating_add(play(rt, heap, scale, start)?);
+    let mut total = Tally::default();
+    for number in 0..400 {
+        total.add(play(rt, heap, scale, number)?);
     }
-    assert!(rt; lifts > 400, "enough lifts are accepted");
+    assert!(rt; total.lifts > 400, "enough lifts are accepted");
+    assert!(rt; total.lowerings > 40, "enough bounds are lowered");
+    assert!(rt; total.closings > 20, "enough candidates are closed");
+    assert!(rt; total.sweeps > 150, "enough sweeps are made");
     Ok(())
 }
 

@@ -1,77 +1,49 @@
 // Costs and reads of a filled plan, on both scales.
+use crate::samples::{filled_plan, numbered, record};
 use plan::Plan;
-use plan::records::PairRecord;
-use plan::refusals::FillFault;
 use scale::Scale;
 use scale::sum::SumScale;
 use scale::worst::WorstScale;
-use std::test::Fail;
+use std::process::Abort;
 
 // Two entries of two candidates, and one pair that sits badly together.
-fn sample<S: Scale>(scale: S, ceiling: u32) -> Result<Plan<S>, (FillFault, Plan<S>)> {
-    let pairs = [PairRecord {
-        entry: 0,
-        candidate: 1,
-        other: 1,
-        choice: 1,
-        points: 4,
-    }];
-    let mut plan = Plan::new(scale);
-    match plan.fill(ceiling, &[2, 2], &[3, 1, 1, 0], &pairs) {
-        Ok(()) => Ok(plan),
-        Err(fault) => Err((fault, plan)),
-    }
-}
-
-// The cost, or the number of the refusal.
-fn cost_of<S: Scale>(plan: &Plan<S>, tuning: &[usize]) -> Result<u32, u32> {
-    match plan.cost(tuning) {
-        Ok(cost) => Ok(cost),
-        Err(refusal) => Err(refusal.number()),
-    }
+fn sample<S: Scale>(rt: &impl Abort, scale: S, ceiling: u32) -> Plan<S> {
+    let pairs = [record(0, 1, 1, 1, 4)];
+    filled_plan(rt, scale, ceiling, &[2, 2], &[3, 1, 1, 0], &pairs)
 }
 
 #[test]
-fn on_the_sum_scale(rt: HostRuntime) -> Result<(), Fail> {
-    let Ok(plan) = sample(SumScale, 10) else {
-        return Err(Fail::new("the sample does not fill"));
-    };
-    assert_eq!(rt; cost_of(&plan, &[0, 0]), Ok(4));
-    assert_eq!(rt; cost_of(&plan, &[0, 1]), Ok(3));
-    assert_eq!(rt; cost_of(&plan, &[1, 0]), Ok(2));
-    assert_eq!(rt; cost_of(&plan, &[1, 1]), Ok(5));
-    assert_eq!(rt; cost_of(&plan, &[1]), Err(9), "wrong length");
-    assert_eq!(rt; cost_of(&plan, &[1, 1, 0]), Err(9), "wrong length");
-    assert_eq!(rt; cost_of(&plan, &[1, 2]), Err(9), "candidate absent");
-    Ok(())
+fn on_the_sum_scale(rt: HostRuntime) {
+    let plan = sample(&rt, SumScale, 10);
+    assert_eq!(rt; numbered(plan.cost(&[0, 0])), Ok(4));
+    assert_eq!(rt; numbered(plan.cost(&[0, 1])), Ok(3));
+    assert_eq!(rt; numbered(plan.cost(&[1, 0])), Ok(2));
+    assert_eq!(rt; numbered(plan.cost(&[1, 1])), Ok(5));
+    assert_eq!(rt; numbered(plan.cost(&[1])), Err(9), "wrong length");
+    assert_eq!(rt; numbered(plan.cost(&[1, 1, 0])), Err(9), "wrong length");
+    assert_eq!(rt; numbered(plan.cost(&[1, 2])), Err(9), "candidate absent");
 }
 
 #[test]
-fn capped_at_the_ceiling(rt: HostRuntime) -> Result<(), Fail> {
-    let Ok(plan) = sample(SumScale, 4) else {
-        return Err(Fail::new("the sample does not fill"));
-    };
-    assert_eq!(rt; cost_of(&plan, &[1, 1]), Ok(4));
-    assert_eq!(rt; cost_of(&plan, &[1, 0]), Ok(2));
-    Ok(())
+fn capped_at_the_ceiling(rt: HostRuntime) {
+    let plan = sample(&rt, SumScale, 4);
+    assert_eq!(rt; numbered(plan.cost(&[1, 1])), Ok(4));
+    assert_eq!(rt; numbered(plan.cost(&[1, 0])), Ok(2));
 }
 
 #[test]
-fn on_the_worst_scale(rt: HostRuntime) -> Result<(), Fail> {
-    let Ok(plan) = sample(WorstScale, 10) else {
-        return Err(Fail::new("the sample does not fill"));
-    };
-    assert_eq!(rt; cost_of(&plan, &[0, 0]), Ok(3));
-    assert_eq!(rt; cost_of(&plan, &[1, 0]), Ok(1));
-    assert_eq!(rt; cost_of(&plan, &[1, 1]), Ok(4));
-    Ok(())
+fn on_the_worst_scale(rt: HostRuntime) {
+    let plan = sample(&rt, WorstScale, 10);
+    assert_eq!(rt; numbered(plan.cost(&[0, 0])), Ok(3));
+    assert_eq!(rt; numbered(plan.cost(&[1, 0])), Ok(1));
+    assert_eq!(rt; numbered(plan.cost(&[1, 1])), Ok(4));
 }
 
 #[test]
 fn a_new_plan(rt: HostRuntime) {
     let plan = Plan::new(WorstScale);
-    assert_eq!(rt; cost_of(&plan, &[]), Ok(0));
-    assert_eq!(rt; cost_of(&plan, &[0]), Err(9));
+    assert_eq!(rt; numbered(plan.cost(&[])), Ok(0));
+    assert_eq!(rt; numbered(plan.cost(&[0])), Err(9));
     assert_eq!(rt; plan.entries(), 0);
     assert_eq!(rt; plan.pairs(), 0);
     assert_eq!(rt; plan.floor(), 0);
@@ -82,10 +54,8 @@ fn a_new_plan(rt: HostRuntime) {
 }
 
 #[test]
-fn reads(rt: HostRuntime) -> Result<(), Fail> {
-    let Ok(plan) = sample(SumScale, 10) else {
-        return Err(Fail::new("the sample does not fill"));
-    };
+fn reads(rt: HostRuntime) {
+    let plan = sample(&rt, SumScale, 10);
     assert_eq!(rt; plan.entries(), 2);
     assert_eq!(rt; plan.candidates(1), Some(2));
     assert_eq!(rt; plan.candidates(2), None);
@@ -96,5 +66,4 @@ fn reads(rt: HostRuntime) -> Result<(), Fail> {
     assert_eq!(rt; plan.is_open(1, 1), Some(true));
     assert_eq!(rt; plan.is_open(2, 0), None);
     assert_eq!(rt; plan.cell(0, 1, 1), Some(4));
-    Ok(())
 }

@@ -9,4 +9,6 @@ mod costs;
 mod fills;
 #[cfg(test)]
 mod lifts;
+#[cfg(test)]
+mod samples;
 mod tokens;

@@ -8,9 +8,11 @@ use plan::refusals::Refusal;
 use plan::token::Token;
 use scale::Scale;
 
-// Sets a token down to the own penalty, which takes every token that is in hand.
+// Sets a token down to the own penalty, which takes every token that is in hand. Its twin in
+// random_calls stays: shared, it would be a public function with a `requires`, which is no plainer.
 fn set_to_own<S: Scale>(plan: &mut Plan<S>, token: Token)
-    requires in_hand { is_in_hand plan.old.tables.hand token.entry token.candidate token.amount ≡ true }
+    requires in_hand { is_in_hand plan.old.tables.hand
+        token.entry token.candidate token.amount ≡ true }
 {
     match plan.set_down(token, Place::OwnPenalty) {
         Ok(()) => {}
@@ -37,37 +39,37 @@ pub(crate) fn moved<S: Scale>(
     }
 }
 
-// What a second lift is answered while the first amount is in hand.
+// The refusal of a second lift while the first amount is in hand.
 pub(crate) fn second_lift<S: Scale>(
     plan: &mut Plan<S>,
     entry: usize,
     candidate: usize,
     amount: u32,
-) -> Result<u32, Refusal> {
+) -> Result<Refusal, Refusal> {
     let token = plan.lift(Place::OwnPenalty, entry, candidate, amount)?;
     match plan.lift(Place::OwnPenalty, entry, candidate, amount) {
         Ok(_) => unreachable(),
         Err(refusal) => {
             set_to_own(plan, token);
-            Ok(refusal.number())
+            Ok(refusal)
         }
     }
 }
 
-// What another plan answers to a token.
+// What another plan answers to a token, once this one has given it.
 pub(crate) fn set_elsewhere<S: Scale>(
     plan: &mut Plan<S>,
     other: &mut Plan<S>,
     entry: usize,
     candidate: usize,
     amount: u32,
-) -> Result<u32, Refusal> {
+) -> Result<Result<(), Refusal>, Refusal> {
     let token = plan.lift(Place::OwnPenalty, entry, candidate, amount)?;
     match other.set_down(token, Place::OwnPenalty) {
-        Ok(()) => Ok(0),
+        Ok(()) => Ok(Ok(())),
         Err((refusal, back)) => {
             set_to_own(plan, back);
-            Ok(refusal.number())
+            Ok(Err(refusal))
         }
     }
 }

@@ -1,0 +1,44 @@
+// What the tests share: plans filled from lists, and answers with the numbers that a user sees.
+use plan::Plan;
+use plan::records::PairRecord;
+use plan::refusals::Refusal;
+use scale::Scale;
+use std::process::Abort;
+
+pub(crate) fn record(
+    entry: usize,
+    candidate: usize,
+    other: usize,
+    choice: usize,
+    points: u32,
+) -> PairRecord {
+    PairRecord {
+        entry,
+        candidate,
+        other,
+        choice,
+        points,
+    }
+}
+
+// A plan on a scale, filled from lists that it has to accept.
+pub(crate) fn filled_plan<S: Scale>(
+    rt: &impl Abort,
+    scale: S,
+    ceiling: u32,
+    counts: &[usize],
+    own: &[u32],
+    pairs: &[PairRecord],
+) -> Plan<S> {
+    let mut plan = Plan::new(scale);
+    assert!(rt;
+        plan.fill(ceiling, counts, own, pairs).is_ok(),
+        "the lists fill the plan"
+    );
+    plan
+}
+
+// An answer with its refusal as the number that a user sees.
+pub(crate) fn numbered<T>(answer: Result<T, Refusal>) -> Result<T, u32> {
+    answer.map_err(|refusal| refusal.number())
+}
