@@ -53,17 +53,6 @@ impl<S: Scale> Plan<S> {
         }
     }
 
-    // Closes a candidate that may be closed.
-    fn shut(&mut self, entry: usize, candidate: usize)
-        requires allowed { close_refusal (at_ceiling S.join self.old) self.old.tables entry candidate ≡ None }
-        ensures closes_it { self.new.tables ≡ with_closed self.old.tables entry candidate }
-        ensures keeps_its_scale { self.new.scale ≡ self.old.scale }
-        ensures keeps_the_hand { self.new.tables.hand ≡ self.old.tables.hand }
-        ensures keeps_every_cheap_tuning { Keeps (at_ceiling S.join self.old) self.old.tables self.new.tables }
-    {
-        self.tables.entries.marks[8 * entry + candidate] = false;
-    }
-
     // Closes a candidate when the floor joined with its weight is at least the bound.
     #[tactic(auto, using(crate::proofs::Keepings::keeps_refl))]
     pub fn close(&mut self, entry: usize, candidate: usize) -> Result<(), Refusal>
@@ -75,7 +64,7 @@ impl<S: Scale> Plan<S> {
         ensures keeps_every_cheap_tuning { Keeps (at_ceiling S.join self.old) self.old.tables self.new.tables }
     {
         self.check_close(entry, candidate)?;
-        self.shut(entry, candidate);
+        self.tables.entries.marks[8 * entry + candidate] = false;
         Ok(())
     }
 
@@ -90,16 +79,6 @@ impl<S: Scale> Plan<S> {
         }
     }
 
-    fn put_bound(&mut self, bound: u32)
-        requires allowed { lower_refusal self.old.tables bound ≡ None }
-        ensures puts_it { self.new.tables ≡ with_bound self.old.tables bound }
-        ensures keeps_its_scale { self.new.scale ≡ self.old.scale }
-        ensures keeps_the_hand { self.new.tables.hand ≡ self.old.tables.hand }
-        ensures keeps_every_cheap_tuning { Keeps (at_ceiling S.join self.old) self.old.tables self.new.tables }
-    {
-        self.tables.limits.bound = bound;
-    }
-
     // Replaces the bound by a number from 1 to the bound.
     #[tactic(auto, using(crate::proofs::Keepings::keeps_refl))]
     pub fn lower(&mut self, bound: u32) -> Result<(), Refusal>
@@ -111,7 +90,7 @@ impl<S: Scale> Plan<S> {
         ensures keeps_every_cheap_tuning { Keeps (at_ceiling S.join self.old) self.old.tables self.new.tables }
     {
         self.check_lower(bound)?;
-        self.put_bound(bound);
+        self.tables.limits.bound = bound;
         Ok(())
     }
 }

@@ -130,17 +130,6 @@ impl<S> Plan<S> {
 }
 
 impl<S: Scale> Plan<S> {
-    fn take(&mut self, from: Place, held: Hand)
-        requires allowed { lift_refusal self.old.tables from held.entry held.candidate held.amount ≡ None }
-        ensures lifts_it { self.new.tables ≡ lifted (at_ceiling S.rest self.old) self.old.tables
-            from held.entry held.candidate held.amount }
-        ensures puts_it_in_hand { is_in_hand self.new.tables.hand held.entry held.candidate held.amount ≡ true }
-        ensures keeps_its_scale { self.new.scale ≡ self.old.scale }
-        ensures keeps_every_cheap_tuning { Keeps (at_ceiling S.join self.old) self.old.tables self.new.tables }
-    {
-        self.tables.take_up(&self.scale, from, held);
-    }
-
     // Takes an amount off a candidate's own penalty, or off the open cells of a row at it, and puts it in hand.
     #[tactic(auto, using(crate::proofs::Keepings::keeps_refl))]
     pub fn lift(
@@ -165,18 +154,8 @@ impl<S: Scale> Plan<S> {
             amount,
         };
         self.check_lift(from, held)?;
-        self.take(from, held);
+        self.tables.take_up(&self.scale, from, held);
         Ok(Token::of(held))
-    }
-
-    fn put(&mut self, held: Hand, to: Place)
-        requires allowed { set_refusal self.old.tables held.entry held.candidate held.amount to ≡ None }
-        ensures sets_it_down { self.new.tables ≡ set_down_in (at_ceiling S.join self.old) self.old.tables
-            held.entry held.candidate held.amount to }
-        ensures keeps_its_scale { self.new.scale ≡ self.old.scale }
-        ensures keeps_every_cheap_tuning { Keeps (at_ceiling S.join self.old) self.old.tables self.new.tables }
-    {
-        self.tables.put_down(&self.scale, held, to);
     }
 
     // Joins the amount in hand to a candidate's own penalty, or to the open cells of a row at it. A refused token comes back.
@@ -193,7 +172,7 @@ impl<S: Scale> Plan<S> {
         if let Err(refusal) = self.check_set_down(&token, to) {
             return Err((refusal, token));
         }
-        self.put(token.holds(), to);
+        self.tables.put_down(&self.scale, token.holds(), to);
         token.spend();
         Ok(())
     }
