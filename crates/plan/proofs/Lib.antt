@@ -10,7 +10,6 @@ pub mod OpenTunings
 pub mod OwnRows
 pub mod PairLists
 pub mod PairPlaces
-pub mod PartLists
 pub mod SweptTables
 pub mod StableTables
 pub mod Playing

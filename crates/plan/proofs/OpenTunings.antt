@@ -6,18 +6,6 @@ use Rattle.plan.specs.Layout.{is_open}
 use Rattle.plan.specs.Tunings.{Tuning, OpenTuning, opens_first, is_open_tuning}
 
 module _ (x : Tables) (t : List ℕ) where
-  pub opens_more : (n : ℕ) → opens_first x t n ≡ true → is_open x n (get_or t n 0) ≡ true → opens_first x t (n + 1) ≡ true
-  opens_more n h e = rw add-one (and_from _ _ h e)
-
-  -- one that is not open is enough
-  opens_not : (n e : ℕ) → e < n → is_open x e (get_or t e 0) ≡ false → opens_first x t n ≡ false
-  opens_not zero e h f = absurd (omega arith)
-  opens_not (suc n) e h f =
-      ⊎_elim
-      (λ (q : e ≡ n). and_right _ _ (rw q at f))
-      (λ (d : e ≡ n → ⊥). and_left _ _ (opens_not n e (grind arith) f))
-      (cases_eq e n)
-
   opens_each : (n e : ℕ) → e < n → opens_first x t n ≡ true → is_open x e (get_or t e 0) ≡ true
   opens_each zero e h f = absurd (omega arith)
   opens_each (suc n) e h f =
@@ -27,9 +15,6 @@ module _ (x : Tables) (t : List ℕ) where
   opens_all : (n : ℕ) → ((e : ℕ) → e < n → is_open x e (get_or t e 0) ≡ true) → opens_first x t n ≡ true
   opens_all zero h = refl
   opens_all (suc n) h = and_from _ _ (opens_all n (λ e l. h e (omega arith))) (h n (omega arith))
-
-  pub not_open : (e : ℕ) → e < x.entries.number → is_open x e (get_or t e 0) ≡ false → is_open_tuning x t ≡ false
-  not_open e h f = and_right _ _ (opens_not x.entries.number e h f)
 
   pub open_tuning : is_open_tuning x t ≡ true → OpenTuning x t
   open_tuning h =

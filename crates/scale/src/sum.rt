@@ -7,7 +7,7 @@ use crate::Scale;
 use crate::ceiling::{cap, effective_ceiling};
 
 // Penalties add up, and what has reached the ceiling stays there.
-#[derive(Clone, Copy)]
+#[derive(Clone, Copy, Debug, Default, PartialEq, Eq)]
 pub struct SumScale;
 
 impl Scale for SumScale {

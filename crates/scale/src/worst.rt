@@ -7,7 +7,7 @@ use crate::Scale;
 use crate::ceiling::cap;
 
 // The larger of two penalties counts.
-#[derive(Clone, Copy)]
+#[derive(Clone, Copy, Debug, Default, PartialEq, Eq)]
 pub struct WorstScale;
 
 impl Scale for WorstScale {

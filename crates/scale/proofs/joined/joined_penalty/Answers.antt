@@ -1,17 +1,9 @@
 use Rattle.std.proofs.Common.{◌≡◌, ℕ, sym, ap, ◌∙◌}
 use Rattle.std.proofs.lemmas.List.{take_all}
-use Rattle.std.proofs.lemmas.List.Sums.{fold_more}
 use Rattle.scale.specs.Joins.{joined}
 use Rattle.scale.proofs.JoinedLists.{joined_shuffled}
 use Rattle.scale.proofs.TwoScales.{joined_sum, joined_worst}
 use Rattle.scale.proofs.joined.joined_penalty.Goals as goal
-
--- one penalty more is joined
-pub loop-penalty-preserved : goal.loop-penalty-preserved
-loop-penalty-preserved g c =
-    let join = g.S.Scale.join c.args.scale.now c.args.ceiling in
-    let more = fold_more join 0 c.args.points.now c.loop-penalty.penalty-index 0 c.loop-penalty-test.true in
-    rw (c.join-total.ensures.is_the_join, c.loop-penalty.invariant) (sym more)
 
 -- all are joined; the rest follows from the laws, and from what the two scales are
 pub returns : goal.returns
