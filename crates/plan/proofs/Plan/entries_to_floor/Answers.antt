@@ -1,10 +1,7 @@
-use Rattle.std.proofs.Common.{ℕ, ap, arith}
-use Rattle.plan.specs.Sweeps.{Frame, entry_to_floor}
+use Rattle.std.proofs.Common.{ℕ}
+use Rattle.plan.specs.Sweeps.{entry_to_floor}
 use Rattle.plan.proofs.Turns.{next_turn}
 use Rattle.plan.proofs.Plan.entries_to_floor.Goals as goal
-
-pub entry_to_floor-requires : goal.entry_to_floor-requires
-entry_to_floor-requires g c = let number = ap (λ (f : Frame). f.entries_number) c.loop-e.invariant.1.same_frame in record { there = omega arith }
 
 pub loop-e-preserved : goal.loop-e-preserved
 loop-e-preserved g c =

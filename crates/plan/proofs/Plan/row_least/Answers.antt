@@ -1,4 +1,4 @@
-use Rattle.std.proofs.Common.{rules, ◌≡◌, ℕ, ◌<◌, get_or, unwrap_or, ap, ◌∙◌, arith}
+use Rattle.std.proofs.Common.{rules, ℕ, ◌<◌, get_or, unwrap_or, ap, ◌∙◌, arith}
 use Rattle.plan.specs.Layout.{count_of, open_at}
 use Rattle.plan.specs.Rows.{least_where, is_first, row_place}
 use Rattle.plan.proofs.RowSteps.{marks_of, least_of}

@@ -25,26 +25,8 @@ returns-then-is_unchanged g c =
       stable_where_a_sweep_changes_nothing = all.stable_stays;
     }
 
-pub loop-made-preserved : goal.loop-made-preserved
-loop-made-preserved g c =
+pub returns-clause-keeps_every_cheap_tuning : goal.returns-clause-keeps_every_cheap_tuning
+returns-clause-keeps_every_cheap_tuning g c =
     let x = c.args.self.now in
-    let y = c.loop-made.self in
-    let z = c.sweep.new.self in
-    let swept = next_step (λ s (d : ℕ). sweep (g.S.Scale.join s d) (g.S.Scale.rest s d)) x y z y.tables refl c.loop-made.invariant.1 c.sweep.ensures.sweeps in
-    (sweep_more (at_ceiling g.S.Scale.join x) (at_ceiling g.S.Scale.rest x) x.tables c.loop-made.made y.tables z.tables false c.loop-made.invariant.0 swept c.if-is_unchanged.ensures.is_so, frame_on x y z c.loop-made.invariant.1 c.sweep.ensures.keeps_its_frame)
-
-pub returns : goal.returns
-returns g c =
-    let x = c.args.self.now in
-    let y = c.loop-made.self in
     let end : c.loop-made.made ≡ c.args.sweeps = omega arith in
-    let done = rw end at c.loop-made.invariant.0 in
-    let all = settles (laws_of g.met.S.Scale.lawful x) x.tables x.sound refl c.args.sweeps y.tables (record { sweeps = c.args.sweeps; stable = false }) done in
-    record {
-      answers = all.answers;
-      leaves = all.leaves;
-      keeps_its_scale = c.loop-made.invariant.1.same_scale;
-      keeps_the_hand = all.same_hand;
-      keeps_every_cheap_tuning = all.keeps;
-      stable_where_a_sweep_changes_nothing = all.stable_stays;
-    }
+    (settles (laws_of g.met.S.Scale.lawful x) x.tables x.sound refl c.args.sweeps c.loop-made.self.tables (record { sweeps = c.args.sweeps; stable = false }) (rw end at c.loop-made.invariant.0)).keeps

@@ -1,4 +1,4 @@
-use Rattle.std.proofs.Common.{rules, ◌≡◌, ℕ, ◌<◌, ap, ◌∙◌, arith}
+use Rattle.std.proofs.Common.{rules, ℕ, ◌<◌, ap, ◌∙◌, arith}
 use Rattle.plan.specs.Layout.{count_of, open_at}
 use Rattle.plan.specs.Lifting.{with_cell_list}
 use Rattle.plan.specs.Rows.{changed, is_first, row_place}
