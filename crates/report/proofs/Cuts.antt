@@ -1,40 +1,37 @@
--- What a scan for a separator knows.
-use Rattle.std.proofs.Common.{◌≡◌, ℕ, ◌+◌, ◌-◌, ◌<◌, ◌≤◌, false, eqb, List, [], ◌∷◌, ◌++◌, length, get_or, take, drop, sym, refl, ap, ◌∙◌, ⊎_elim}
-use native.Mathlib.Nat.{sub-zero}
-use Rattle.std.proofs.lemmas.Bool.{eq-eqb, ne_eqb, cond-true, cond-false, cases_Bool}
-use Rattle.std.proofs.lemmas.List.{take_more, drop_more, take_rest, take_all, take-append-drop}
+-- What the place of the first separator says of the pieces.
+use Rattle.std.proofs.Common.{◌≡◌, ℕ, ◌+◌, ◌-◌, ◌≤◌, false, eqb, List, [], ◌∷◌, length, take, drop, position, Some, None, refl, ap, ◌∙◌, arith, ⊎_elim}
+use Rattle.std.specs.List as list
+use Rattle.std.specs.List.{slice_split, position_or_len}
+use Rattle.std.proofs.lemmas.Bool.{cond-true, cond-false, cases_Bool}
+use Rattle.std.proofs.lemmas.Bool.Decides.{nat_tests}
+use Rattle.std.proofs.lemmas.List.{take_rest}
+use Rattle.std.proofs.lemmas.List.Elements.{All-from_get_or}
+use Rattle.std.proofs.lemmas.List.Quantifiers.{position-Some}
+use Rattle.std.proofs.lemmas.List.Splits.{slice_split_none, slice_split_first}
+use Rattle.std.proofs.lemmas.List.Sums.{position_or_len_is, fails_before_first}
 use Rattle.report.specs.Fields.{pieces, onto_first}
 
--- no byte is the separator
-abbrev pub Lacks : ℕ → List ℕ → Type 0
-Lacks separator [] = Unit {0}
-Lacks separator (b ∷ bs) = (eqb b separator ≡ false) × Lacks separator bs
+onto_first_same : (b : ℕ) (ps : List (List ℕ)) → onto_first b ps ≡ list.onto_first b ps
+onto_first_same b [] = refl
+onto_first_same b (p ∷ ps) = refl
 
-lacks_push : (separator b : ℕ) (bs : List ℕ) → Lacks separator bs → eqb b separator ≡ false → Lacks separator (bs ++ b ∷ [])
-lacks_push separator b [] h e = (e, tt)
-lacks_push separator b (x ∷ xs) h e = (h.0, lacks_push separator b xs h.1 e)
+-- the pieces are what std's `split` gives
+pieces_are_split : (separator : ℕ) (bs : List ℕ) → pieces separator bs ≡ slice_split (λ b. eqb b separator) bs
+pieces_are_split separator [] = refl
+pieces_are_split separator (b ∷ bs) = rw (onto_first_same, pieces_are_split separator bs) refl
 
-pieces_lone : (separator : ℕ) (bs : List ℕ) → Lacks separator bs → pieces separator bs ≡ bs ∷ []
-pieces_lone separator [] h = refl
-pieces_lone separator (b ∷ bs) h = cond-false _ _ _ h.0 ∙ ap (onto_first b) (pieces_lone separator bs h.1)
+module _ (separator : ℕ) (t : List ℕ) where
+  -- the parts are as `&text[..i]` and `&text[i + 1..]` read
+  pub cut_at : (i : ℕ) → position (λ b. eqb b separator) t ≡ Some i → pieces separator t ≡ take i t ∷ pieces separator (take (length t - (i + 1)) (drop (i + 1) t))
+  cut_at i found =
+      let at = position-Some (λ b. eqb b separator) t i 0 found in
+      let here : position_or_len (λ b. eqb b separator) t ≡ i = position_or_len_is _ t i 0 (omega arith) at.2 (λ _. at.1) in
+      rw (take_rest, pieces_are_split, pieces_are_split, ← here) (slice_split_first _ t 0 (omega arith))
 
-pieces_cut : (separator : ℕ) (bs rest : List ℕ) → Lacks separator bs → pieces separator (bs ++ separator ∷ rest) ≡ bs ∷ pieces separator rest
-pieces_cut separator [] rest h = cond-true _ _ _ (eq-eqb separator separator refl)
-pieces_cut separator (b ∷ bs) rest h = cond-false _ _ _ h.0 ∙ ap (onto_first b) (pieces_cut separator bs rest h.1)
-
--- at the first separator; the parts are as `&text[0..i]` and `&text[i + 1..]` read
-pub cut_at : (separator i : ℕ) (t : List ℕ) → Lacks separator (take i t) → i < length t → get_or t i 0 ≡ separator →
-    pieces separator t ≡ take (i - 0) t ∷ pieces separator (take (length t - (i + 1)) (drop (i + 1) t))
-cut_at separator i t h l e =
-    rw (sub-zero, take_rest)
-    (ap (pieces separator) (sym (take-append-drop i t) ∙ ap (λ r. take i t ++ r) (drop_more t i 0 l ∙ ap (λ b. b ∷ drop (i + 1) t) e))
-    ∙ pieces_cut separator (take i t) _ h)
-
-pub cut_more : (separator i : ℕ) (t : List ℕ) → Lacks separator (take i t) → i < length t → (get_or t i 0 ≡ separator → ⊥) → Lacks separator (take (i + 1) t)
-cut_more separator i t h l e = rw (take_more t i 0 l) (lacks_push separator _ _ h (ne_eqb _ _ e))
-
-pub cut_none : (separator i : ℕ) (t : List ℕ) → Lacks separator (take i t) → length t ≤ i → pieces separator t ≡ t ∷ []
-cut_none separator i t h l = pieces_lone separator t (rw (take_all i t l) at h)
+  pub cut_none : position (λ b. eqb b separator) t ≡ None → pieces separator t ≡ t ∷ []
+  cut_none found =
+      let all : length t ≤ position_or_len (λ b. eqb b separator) t = grind (arith, nat_tests) in
+      rw pieces_are_split (slice_split_none _ t (All-from_get_or (λ b. eqb b separator ≡ false) t 0 (λ k l. fails_before_first (λ b. eqb b separator) t k 0 (omega arith))))
 
 -- there is a first piece
 pub pieces_some : (separator : ℕ) (bs : List ℕ) → (p : List ℕ) × (ps : List (List ℕ)) × (pieces separator bs ≡ p ∷ ps)

@@ -3,3 +3,4 @@ pub mod Digits
 pub mod FilledSamples
 pub mod Lines
 pub mod Running
+pub mod Tunings

@@ -19,10 +19,11 @@ fn refusal_text(heap: Global, number: u32, line: usize) -> Result<String, AllocE
 
 // The report of a row, and of the plan at its ceiling.
 fn report(heap: Global, ceiling: u32, penalties: &[u32]) -> Result<String, AllocError>
-    ensures is_the_report { IfOk result (λ s. string_bytes s ≡ plan_report ceiling (report_of (record { ceiling = ceiling; penalties = penalties.now }))) }
+    ensures is_the_report { IfOk result (λ s. string_bytes s
+        ≡ plan_report ceiling (report_of (record { ceiling = ceiling; penalties = penalties.now }))) }
 {
     let mut out = row_report(heap, ceiling, penalties)?;
-    push_plans(heap, &mut out, ceiling)?;
+    push_plans(&mut out, ceiling)?;
     Ok(out)
 }
 
