@@ -9,7 +9,9 @@ abbrev pub with_line : List ℕ → (ℕ → ℕ → ℕ) → Tables → List �
 with_line name join x text p = text ++ paid_line name p.0 p.1 (paid_by join x p.0 p.1)
 
 -- one line more is written
-pub one_line_more : (line : List ℕ → ℕ × ℕ → List ℕ) (before text out : List ℕ) (ps : List (ℕ × ℕ)) (i : ℕ) → i < length ps →
-    text ≡ fold line before (take i ps) → out ≡ line text (get_or ps i (0, 0)) → out ≡ fold line before (take (i + 1) ps)
+pub one_line_more : (line : List ℕ → ℕ × ℕ → List ℕ) (before text out : List ℕ)
+    (ps : List (ℕ × ℕ)) (i : ℕ) → i < length ps → text ≡ fold line before (take i ps) →
+    out ≡ line text (get_or ps i (0, 0)) → out ≡ fold line before (take (i + 1) ps)
 one_line_more line before text out ps i l so_far writes =
-    writes ∙ ap (λ t. line t (get_or ps i (0, 0))) so_far ∙ sym (fold_more line before ps i (0, 0) l)
+    writes ∙ ap (λ t. line t (get_or ps i (0, 0))) so_far
+    ∙ sym (fold_more line before ps i (0, 0) l)

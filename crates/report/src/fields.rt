@@ -1,5 +1,6 @@
 // Text cut into pieces, and a field read as a value.
-ghost use Rattle.std.specs.Prelude.{◌≡◌, ◌<◌, [], ◌∷◌, length, position, IfSome, MatchOption, ◌==◌};
+ghost use Rattle.std.specs.Prelude.{◌≡◌, ◌<◌, ◌==◌, [], ◌∷◌, length, position};
+ghost use Rattle.std.specs.Prelude.{IfSome, MatchOption};
 ghost use Rattle.std.specs.Str.{all_ascii_digits};
 ghost use Rattle.report.specs.Fields.{pieces, shaped, value};
 
@@ -28,7 +29,7 @@ pub(crate) fn cut(text: &[u8], separator: u8) -> Option<(&[u8], &[u8])>
 fn is_shaped(field: &[u8]) -> bool
     ensures is_shaped { result ≡ shaped field.now }
 {
-    field.len() >= 1 && field.len() <= MOST_DIGITS && (field.len() == 1 || field[0] != b'0')
+    (1..=MOST_DIGITS).contains(&field.len()) && (field.len() == 1 || field[0] != b'0')
 }
 
 fn is_all_digits(field: &[u8]) -> bool

@@ -1,6 +1,7 @@
 // What is written for a plan that the program has as data.
 ghost use Rattle.std.specs.Prelude.{◌≡◌, ◌++◌, string_bytes, OnOk};
-ghost use Rattle.report.specs.PlanReports.{paid_by, named_tuning, paid_numbers, paid_line, tuning_lines, fault_line, plan_lines, plan_report};
+ghost use Rattle.report.specs.PlanReports.{paid_by, named_tuning, paid_numbers, paid_line};
+ghost use Rattle.report.specs.PlanReports.{tuning_lines, fault_line, plan_lines, plan_report};
 
 use plan::Plan;
 use plan::records::PairRecord;
@@ -33,6 +34,7 @@ fn pay<S: Scale>(plan: &Plan<S>, a: usize, b: usize) -> Option<Paid>
     })
 }
 
+// The text and the name stay parameters: a struct that borrowed both would be no plainer to call.
 fn push_tuning_name(out: &mut String, name: &str, a: usize, b: usize) -> Result<(), AllocError>
     ensures names_it { OnOk result (string_bytes out.new
         ≡ string_bytes out.old ++ named_tuning name.now a b) }

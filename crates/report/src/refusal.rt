@@ -19,8 +19,7 @@ impl Reason {
     }
 
     pub(crate) fn at_line(self, line: usize) -> Refusal
-        ensures is_for_the_reason { result.reason ≡ self }
-        ensures is_of_the_line { result.line ≡ line }
+        ensures is_of_the_line { result ≡ record { reason = self; line = line } }
     {
         Refusal { reason: self, line }
     }

@@ -9,6 +9,7 @@ use scale::worst::WorstScale;
 use std::alloc::{AllocError, Global};
 
 // A line for one penalty.
+// The text and the name stay parameters: a struct that borrowed both would be no plainer to call.
 fn push_running_line(
     out: &mut String,
     name: &str,
@@ -30,7 +31,8 @@ fn push_running_lines<S: Scale>(
     penalties: &[u32],
 ) -> Result<(), AllocError>
     ensures adds_the_lines { OnOk result (string_bytes out.new
-        ≡ string_bytes out.old ++ running_lines name.now (S.join scale.now ceiling) 0 penalties.now) }
+        ≡ string_bytes out.old
+        ++ running_lines name.now (S.join scale.now ceiling) 0 penalties.now) }
 {
     let mut total: u32 = 0;
     for penalty in penalties {

@@ -6,8 +6,8 @@ use Rattle.report.proofs.Digits.{all_are_digits}
 use Rattle.report.proofs.fields.is_all_digits.Goals as goal
 
 pub returns : goal.returns
-returns c = record {
-  is_all_digits =
-      all_from_yields_List is_ascii_digit _ _ _ c.all.ensures.ran (YieldsList-from_slice c.args.field.now cc) (λ x b q k. search (rules, tests))
-      ∙ all_are_digits c.args.field.now;
-}
+returns c =
+    let field = c.args.field.now in
+    let tested = all_from_yields_List is_ascii_digit _ _ _ c.all.ensures.ran
+    (YieldsList-from_slice field cc) (λ x b q k. search (rules, tests)) in
+    record { is_all_digits = tested ∙ all_are_digits field }

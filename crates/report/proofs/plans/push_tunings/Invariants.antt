@@ -6,5 +6,5 @@ use Rattle.report.proofs.plans.push_tunings.Given as goal
 abbrev pub invariant-loop-a : goal.invariant-loop-a
 invariant-loop-a g l =
     let join = g.S.Scale.join l.plan.scale l.plan.tables.limits.ceiling in
-    string_bytes l.out
-    ≡ fold (with_line l.name join l.plan.tables) (string_bytes l.initial.out) (take l.a-index l.a-items)
+    let line = with_line l.name join l.plan.tables in
+    string_bytes l.out ≡ fold line (string_bytes l.initial.out) (take l.a-index l.a-items)
