@@ -1,5 +1,5 @@
 -- Where the sample is filled, its lines are those of the filled tables.
-use Rattle.std.proofs.Common.{◌≡◌, ℕ, List, Some, None, Ok, Option, sym, ap, ◌∙◌, arith}
+use Rattle.std.proofs.Common.{◌≡◌, ℕ, List, Some, None, Ok, Option, sym, ap, ◌∙◌}
 use Rattle.plan.specs.declared.refusals.FillFault.{FillFault}
 use Rattle.plan.specs.declared.tables.Tables.{Tables}
 use Rattle.plan.specs.Faults.{fill_fault}
@@ -7,13 +7,20 @@ use Rattle.plan.specs.Filling.{answer_to, left_by, filled_tables, fill_answer, f
 use Rattle.plan.specs.Fresh.{new_tables}
 use Rattle.report.specs.PlanReports.{sample_counts, sample_own, sample_pairs, tuning_lines, filled_lines, plan_lines}
 
-module _ (name : List ℕ) (join : ℕ → ℕ → ℕ → ℕ) (c : ℕ) (before : List ℕ) (y : Tables) where
-  by_fault : (o : Option FillFault) → Ok tt ≡ answer_to o → y ≡ left_by o new_tables (filled_tables c sample_counts sample_own sample_pairs) →
-      filled_lines name (join c) (answer_to o) (left_by o new_tables (filled_tables c sample_counts sample_own sample_pairs)) before ≡ tuning_lines name (join y.limits.ceiling) y before
-  by_fault None e h = ap (λ (z : Tables). tuning_lines name (join z.limits.ceiling) z before) (sym h)
-  by_fault (Some f) e h = let z : ◌≡◌ {A = ℕ} 0 1 = cc in absurd (omega arith)
+abbrev filled : ℕ → Tables
+filled c = filled_tables c sample_counts sample_own sample_pairs
 
-  pub filled_sample : (x : Tables) → x ≡ new_tables → Ok tt ≡ fill_answer x c sample_counts sample_own sample_pairs → y ≡ fill_after x c sample_counts sample_own sample_pairs →
+module _ (name : List ℕ) (join : ℕ → ℕ → ℕ → ℕ) (c : ℕ) (before : List ℕ) (y : Tables) where
+  by_fault : (o : Option FillFault) → Ok tt ≡ answer_to o → y ≡ left_by o new_tables (filled c) →
+      filled_lines name (join c) (answer_to o) (left_by o new_tables (filled c)) before
+      ≡ tuning_lines name (join y.limits.ceiling) y before
+  by_fault None e h =
+      ap (λ (z : Tables). tuning_lines name (join z.limits.ceiling) z before) (sym h)
+  by_fault (Some f) e h = cc
+
+  pub filled_sample : (x : Tables) → x ≡ new_tables →
+      Ok tt ≡ fill_answer x c sample_counts sample_own sample_pairs →
+      y ≡ fill_after x c sample_counts sample_own sample_pairs →
       plan_lines name join c before ≡ tuning_lines name (join y.limits.ceiling) y before
   filled_sample x new e h =
       by_fault (fill_fault new_tables c sample_counts sample_own sample_pairs)

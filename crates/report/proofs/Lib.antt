@@ -2,4 +2,4 @@ pub mod Cuts
 pub mod Digits
 pub mod FilledSamples
 pub mod Lines
-pub mod Running
+pub mod Tunings

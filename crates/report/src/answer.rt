@@ -4,25 +4,32 @@ ghost use Rattle.report.specs.Readings.{reading};
 ghost use Rattle.report.specs.Answers.{refusal_lines, written_for};
 ghost use Rattle.report.specs.PlanReports.{plan_report};
 ghost use Rattle.report.specs.RowReports.{report_of};
+ghost use Rattle.report.specs.Refusals.{number_of};
 
 use crate::plans::push_plans;
 use crate::read::read;
+use crate::refusal::Refusal;
 use crate::rows::row_report;
 use std::alloc::{AllocError, Global};
 
 // A refusal's number and line.
-fn refusal_text(heap: Global, number: u32, line: usize) -> Result<String, AllocError>
-    ensures is_the_refusal { IfOk result (λ s. string_bytes s ≡ refusal_lines number line) }
+fn refusal_text(heap: Global, refusal: Refusal) -> Result<String, AllocError>
+    ensures is_the_refusal { IfOk result (λ s. string_bytes s
+        ≡ refusal_lines (number_of refusal.reason) refusal.line) }
 {
+    let number = refusal.reason.number();
+    let line = refusal.line;
     format!(in heap; "refusal line\n{number} {line}\n")
 }
 
 // The report of a row, and of the plan at its ceiling.
 fn report(heap: Global, ceiling: u32, penalties: &[u32]) -> Result<String, AllocError>
-    ensures is_the_report { IfOk result (λ s. string_bytes s ≡ plan_report ceiling (report_of (record { ceiling = ceiling; penalties = penalties.now }))) }
+    ensures is_the_report { IfOk result (λ s. string_bytes s
+        ≡ plan_report ceiling
+        (report_of (record { ceiling = ceiling; penalties = penalties.now }))) }
 {
     let mut out = row_report(heap, ceiling, penalties)?;
-    push_plans(heap, &mut out, ceiling)?;
+    push_plans(&mut out, ceiling)?;
     Ok(out)
 }
 
@@ -32,8 +39,8 @@ pub fn answer(heap: Global, text: &[u8]) -> Result<String, AllocError>
 {
     let mut penalties = Vec::with_capacity(heap, text.len())?;
     match read(text, &mut penalties) {
-        Ok(ceiling) => report(heap, ceiling, penalties.as_slice()),
-        Err(refusal) => refusal_text(heap, refusal.reason.number(), refusal.line),
+        Ok(ceiling) => report(heap, ceiling, &penalties),
+        Err(refusal) => refusal_text(heap, refusal),
     }
 }
 

@@ -1,6 +1,7 @@
 // What is written for a plan that the program has as data.
-ghost use Rattle.std.specs.Prelude.{◌≡◌, ◌++◌, IfOk, string_bytes, OnOk};
-ghost use Rattle.report.specs.PlanReports.{paid_by, named_tuning, paid_numbers, paid_line, tuning_lines, fault_line, plan_lines, plan_report};
+ghost use Rattle.std.specs.Prelude.{◌≡◌, ◌++◌, string_bytes, OnOk};
+ghost use Rattle.report.specs.PlanReports.{paid_by, named_tuning, paid_numbers, paid_line};
+ghost use Rattle.report.specs.PlanReports.{tuning_lines, fault_line, plan_lines, plan_report};
 
 use plan::Plan;
 use plan::records::PairRecord;
@@ -8,10 +9,10 @@ use plan::refusals::FillFault;
 use scale::Scale;
 use scale::sum::SumScale;
 use scale::worst::WorstScale;
-use std::alloc::{AllocError, Global};
+use std::alloc::AllocError;
 
 // What a tuning of the plan pays, and what that comes to.
-#[derive(Clone, Copy)]
+#[derive(Clone, Copy, Debug, PartialEq, Eq)]
 pub struct Paid {
     pub floor: u32,
     pub first: u32,
@@ -21,93 +22,91 @@ pub struct Paid {
 }
 
 fn pay<S: Scale>(plan: &Plan<S>, a: usize, b: usize) -> Option<Paid>
-    ensures is_what_it_pays { result ≡ paid_by (S.join plan.now.scale plan.now.tables.limits.ceiling) plan.now.tables a b }
+    ensures is_what_it_pays { result
+        ≡ paid_by (S.join plan.now.scale plan.now.tables.limits.ceiling) plan.now.tables a b }
 {
-    let floor = plan.floor();
-    let first = plan.own(0, a)?;
-    let second = plan.own(1, b)?;
-    let cell = plan.cell(0, a, b)?;
-    let cost = plan.cost(&[a, b]).ok()?;
     Some(Paid {
+        floor: plan.floor(),
+        first: plan.own(0, a)?,
+        second: plan.own(1, b)?,
+        cell: plan.cell(0, a, b)?,
+        cost: plan.cost(&[a, b]).ok()?,
+    })
+}
+
+// The text and the name stay parameters: a struct that borrowed both would be no plainer to call.
+fn push_tuning_name(out: &mut String, name: &str, a: usize, b: usize) -> Result<(), AllocError>
+    ensures names_it { OnOk result (string_bytes out.new
+        ≡ string_bytes out.old ++ named_tuning name.now a b) }
+{
+    write!(out, "{name} {a} {b}")
+}
+
+fn push_paid(out: &mut String, paid: Paid) -> Result<(), AllocError>
+    ensures lists_the_numbers { OnOk result (string_bytes out.new
+        ≡ string_bytes out.old ++ paid_numbers paid) }
+{
+    let Paid {
         floor,
         first,
         second,
         cell,
         cost,
-    })
+    } = paid;
+    writeln!(out, " {floor} {first} {second} {cell} {cost}")
 }
 
-fn tuning_text(heap: Global, name: &str, a: usize, b: usize) -> Result<String, AllocError>
-    ensures names_it { IfOk result (λ s. string_bytes s ≡ named_tuning name.now a b) }
-{
-    format!(in heap; "{name} {a} {b}")
-}
-
-fn paid_text(heap: Global, paid: Paid) -> Result<String, AllocError>
-    ensures lists_the_numbers { IfOk result (λ s. string_bytes s ≡ paid_numbers paid) }
-{
-    let floor = paid.floor;
-    let first = paid.first;
-    let second = paid.second;
-    let cell = paid.cell;
-    let cost = paid.cost;
-    format!(in heap; " {floor} {first} {second} {cell} {cost}\n")
-}
-
-fn fault_text(heap: Global, name: &str, fault: FillFault) -> Result<String, AllocError>
-    ensures is_the_line { IfOk result (λ s. string_bytes s ≡ fault_line name.now fault) }
+fn push_fault(out: &mut String, name: &str, fault: FillFault) -> Result<(), AllocError>
+    ensures adds_the_line { OnOk result (string_bytes out.new
+        ≡ string_bytes out.old ++ fault_line name.now fault) }
 {
     let number = fault.refusal.number();
     let list = fault.list.number();
     let place = fault.place;
-    format!(in heap; "{name} refusal {number} list {list} place {place}\n")
+    writeln!(out, "{name} refusal {number} list {list} place {place}")
 }
 
 fn push_tuning<S: Scale>(
-    heap: Global,
     out: &mut String,
     name: &str,
     plan: &Plan<S>,
     a: usize,
     b: usize,
 ) -> Result<(), AllocError>
-    ensures adds_its_line { OnOk result (string_bytes out.new ≡ string_bytes out.old ++ paid_line name.now a b (paid_by (S.join plan.now.scale plan.now.tables.limits.ceiling) plan.now.tables a b)) }
+    ensures adds_its_line { OnOk result (string_bytes out.new
+        ≡ string_bytes out.old ++ paid_line name.now a b
+        (paid_by (S.join plan.now.scale plan.now.tables.limits.ceiling) plan.now.tables a b)) }
 {
     match pay(plan, a, b) {
         Some(paid) => {
-            let mut line = tuning_text(heap, name, a, b)?;
-            let numbers = paid_text(heap, paid)?;
-            line.push_str(numbers.as_str())?;
-            out.push_str(line.as_str())
+            push_tuning_name(out, name, a, b)?;
+            push_paid(out, paid)
         }
         None => Ok(()),
     }
 }
 
 // A line for each of the four tunings.
-fn push_tunings<S: Scale>(
-    heap: Global,
-    out: &mut String,
-    name: &str,
-    plan: &Plan<S>,
-) -> Result<(), AllocError>
-    ensures adds_the_lines { OnOk result (string_bytes out.new ≡ tuning_lines name.now (S.join plan.now.scale plan.now.tables.limits.ceiling) plan.now.tables (string_bytes out.old)) }
+fn push_tunings<S: Scale>(out: &mut String, name: &str, plan: &Plan<S>) -> Result<(), AllocError>
+    ensures adds_the_lines { OnOk result (string_bytes out.new
+        ≡ tuning_lines name.now (S.join plan.now.scale plan.now.tables.limits.ceiling)
+        plan.now.tables (string_bytes out.old)) }
 {
-    push_tuning(heap, out, name, plan, 0, 0)?;
-    push_tuning(heap, out, name, plan, 0, 1)?;
-    push_tuning(heap, out, name, plan, 1, 0)?;
-    push_tuning(heap, out, name, plan, 1, 1)
+    for (a, b) in [(0, 0), (0, 1), (1, 0), (1, 1)] {
+        push_tuning(out, name, plan, a, b)?;
+    }
+    Ok(())
 }
 
 // The plan, filled on a scale.
 fn push_plan<S: Scale + Drop>(
-    heap: Global,
     out: &mut String,
     name: &str,
     scale: S,
     ceiling: u32,
 ) -> Result<(), AllocError>
-    ensures adds_the_lines { OnOk result (string_bytes out.new ≡ plan_lines name.now (S.join scale) ceiling (string_bytes out.old)) }
+    ensures adds_the_lines { OnOk result (string_bytes out.new
+        ≡ plan_lines name.now (S.join scale) ceiling (string_bytes out.old)) }
 {
     let pairs = [PairRecord {
         entry: 0,
@@ -118,19 +117,17 @@ fn push_plan<S: Scale + Drop>(
     }];
     let mut plan = Plan::new(scale);
     match plan.fill(ceiling, &[2, 2], &[3, 1, 1, 0], &pairs) {
-        Ok(()) => push_tunings(heap, out, name, &plan),
-        Err(fault) => {
-            let line = fault_text(heap, name, fault)?;
-            out.push_str(line.as_str())
-        }
+        Ok(()) => push_tunings(out, name, &plan),
+        Err(fault) => push_fault(out, name, fault),
     }
 }
 
 // The plan on both scales.
-pub(crate) fn push_plans(heap: Global, out: &mut String, ceiling: u32) -> Result<(), AllocError>
-    ensures adds_the_report { OnOk result (string_bytes out.new ≡ plan_report ceiling (string_bytes out.old)) }
+pub(crate) fn push_plans(out: &mut String, ceiling: u32) -> Result<(), AllocError>
+    ensures adds_the_report { OnOk result (string_bytes out.new
+        ≡ plan_report ceiling (string_bytes out.old)) }
 {
     out.push_str("scale first second floor own own cell cost\n")?;
-    push_plan(heap, out, "sum", SumScale, ceiling)?;
-    push_plan(heap, out, "worst", WorstScale, ceiling)
+    push_plan(out, "sum", SumScale, ceiling)?;
+    push_plan(out, "worst", WorstScale, ceiling)
 }

@@ -20,19 +20,11 @@ fn ranged_value(
 ) -> Result<u32, Refusal>
     ensures is_the_ranged_value { result ≡ ranged low high reason number (value line.now) }
 {
-    let Some(found) = value_of(line) else {
-        return Err(Refusal {
-            reason: Reason::MalformedLine,
-            line: number,
-        });
-    };
-    if low <= found && found <= high {
+    let found = value_of(line).ok_or(Reason::MalformedLine.at_line(number))?;
+    if (low..=high).contains(&found) {
         Ok(found)
     } else {
-        Err(Refusal {
-            reason,
-            line: number,
-        })
+        Err(reason.at_line(number))
     }
 }
 
@@ -41,43 +33,31 @@ fn read_penalties(ceiling: u32, lines: &[u8], penalties: &mut Vec<u32>) -> Resul
     requires nothing_yet { penalties.old.items ≡ [] }
     requires room { length lines.now ≤ vec_capacity penalties.old }
     requires short { length lines.now ≤ longest }
-    ensures is_what_the_lines_say { Says (penalties_of ceiling 2 [] (pieces 10 lines.now)) result penalties.new.items }
+    ensures is_what_the_lines_say { Says
+        (penalties_of ceiling 2 [] (pieces 10 lines.now)) result penalties.new.items }
 {
-    let mut rest = lines;
-    let mut number: usize = 2;
-    while let Some((line, after)) = cut(rest, b'\n') {
+    for (index, line) in lines.split_inclusive(|byte| *byte == b'\n').enumerate() {
+        let number = index + 2;
+        let line = line
+            .strip_suffix(b"\n")
+            .ok_or(Reason::MalformedLine.at_line(number))?;
         let penalty = ranged_value(line, 0, ceiling, Reason::PointsAboveCeiling, number)?;
         penalties.push_reserved(penalty);
-        number += 1;
-        rest = after;
-    }
-    if !rest.is_empty() {
-        return Err(Refusal {
-            reason: Reason::MalformedLine,
-            line: number,
-        });
     }
     Ok(ceiling)
 }
 
 // The ceiling that a text gives, and its penalties into room that was made for them.
+// The room stays the caller's: made here, it would need an error of memory around each refusal.
 pub(crate) fn read(text: &[u8], penalties: &mut Vec<u32>) -> Result<u32, Refusal>
     requires nothing_yet { penalties.old.items ≡ [] }
     requires room { length text.now ≤ vec_capacity penalties.old }
     ensures is_what_the_text_says { Says (reading text.now) result penalties.new.items }
 {
     if text.len() > LONGEST_TEXT {
-        return Err(Refusal {
-            reason: Reason::TextTooLong,
-            line: 0,
-        });
+        return Err(Reason::TextTooLong.at_line(0));
     }
-    let Some((line, lines)) = cut(text, b'\n') else {
-        return Err(Refusal {
-            reason: Reason::MalformedLine,
-            line: 1,
-        });
-    };
+    let (line, lines) = cut(text, b'\n').ok_or(Reason::MalformedLine.at_line(1))?;
     let ceiling = ranged_value(line, 1, HIGHEST_CEILING, Reason::CeilingOutOfRange, 1)?;
     read_penalties(ceiling, lines, penalties)
 }

@@ -2,5 +2,7 @@ use Rattle.report.proofs.answer.answer.Goals as goal
 
 pub returns-in-Ok : goal.returns-in-Ok
 returns-in-Ok c = record {
-  report_or_refusal = rw (c.in-Ok.ensures.is_what_the_text_says, ← c.as_slice.ensures.value) c.report.ensures.is_the_report;
+  report_or_refusal =
+      rw (c.in-Ok.ensures.is_what_the_text_says, ← c.deref.ensures.value)
+      c.report.ensures.is_the_report;
 }
