@@ -1,5 +1,5 @@
-// Worked cases. The contract is a table of equations that the checker computes from the definitions; the body makes the
-// calls of the scales, and the answers are the table's.
+// Worked cases. The contract is a table of equations that the checker computes from the
+// definitions; the body makes the calls of the scales, and the answers are the table's.
 #![tactic(auto)]
 
 ghost use Rattle.std.specs.Prelude.{◌≡◌, [], ◌∷◌};

@@ -1,5 +1,5 @@
 -- Closing a candidate, and lowering the bound.
-use Rattle.std.specs.Prelude.{ℕ, Bool, false, cond, ◌&&◌, Some, None, Option, Result, nat_le, slice_set}
+use Rattle.std.specs.Prelude.{ℕ, Bool, false, if◌then◌else◌, ◌&&◌, Some, None, Option, Result, nat_le, slice_set}
 use Rattle.plan.specs.declared.refusals.Refusal.{Refusal}
 use Rattle.plan.specs.declared.refusals.Refusal.TheVariants.{Absent, BoundOutOfRange, NotAllowed}
 use Rattle.plan.specs.declared.tables.Tables.{Tables}
@@ -13,7 +13,7 @@ may_close join x e c = nat_le x.limits.bound (join x.limits.floor (weight join x
 
 -- why it is not closed, if it is not
 abbrev pub close_refusal : (ℕ → ℕ → ℕ) → Tables → ℕ → ℕ → Option Refusal
-close_refusal join x e c = cond (is_open x e c) (cond (may_close join x e c) None (Some NotAllowed)) (Some Absent)
+close_refusal join x e c = if is_open x e c then (if may_close join x e c then None else Some NotAllowed) else Some Absent
 
 -- the candidate closed
 abbrev pub with_closed : Tables → ℕ → ℕ → Tables
@@ -32,7 +32,7 @@ close_after join x e c = unless_refused (close_refusal join x e c) x (with_close
 
 -- the bound is lowered to a number from 1 to the bound
 abbrev pub lower_refusal : Tables → ℕ → Option Refusal
-lower_refusal x b = cond (nat_le 1 b && nat_le b x.limits.bound) None (Some BoundOutOfRange)
+lower_refusal x b = if nat_le 1 b && nat_le b x.limits.bound then None else Some BoundOutOfRange
 
 abbrev pub with_bound : Tables → ℕ → Tables
 with_bound x b = record { entries = x.entries; pairs = x.pairs; limits = record { floor = x.limits.floor; ceiling = x.limits.ceiling; bound = b }; hand = x.hand }

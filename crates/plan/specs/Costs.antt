@@ -1,5 +1,5 @@
 -- What a tuning costs.
-use Rattle.std.specs.Prelude.{ℕ, cond, List, ◌∷◌, ◌++◌, map, Some, None, Ok, Err, Option, Result, ◌==◌, slice_index}
+use Rattle.std.specs.Prelude.{ℕ, if◌then◌else◌, List, ◌∷◌, ◌++◌, map, Some, None, Ok, Err, Option, Result, ◌==◌, slice_index}
 use Rattle.std.specs.List.{range_with_len}
 use Rattle.scale.specs.Joins.{joined}
 use Rattle.plan.specs.declared.refusals.Refusal.{Refusal}
@@ -12,7 +12,7 @@ use Rattle.plan.specs.Tunings.{is_open_tuning}
 -- the amount in hand, where it is for a candidate of the tuning
 abbrev pub hand_part : Option Hand → List ℕ → ℕ
 hand_part None t = 0
-hand_part (Some h) t = cond (slice_index t h.entry == h.candidate) h.amount 0
+hand_part (Some h) t = if slice_index t h.entry == h.candidate then h.amount else 0
 
 -- the own penalty of the tuning's candidate of the entry e
 abbrev pub own_part : Tables → List ℕ → ℕ → ℕ
@@ -33,4 +33,4 @@ cost join x t = joined join (parts x t)
 
 -- what is answered for a list of candidates
 abbrev pub cost_answer : (ℕ → ℕ → ℕ) → Tables → List ℕ → Result ℕ Refusal
-cost_answer join x t = cond (is_open_tuning x t) (Ok (cost join x t)) (Err Absent)
+cost_answer join x t = if is_open_tuning x t then Ok (cost join x t) else Err Absent

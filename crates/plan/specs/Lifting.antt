@@ -1,5 +1,5 @@
 -- Lifting an amount, and setting it down.
-use Rattle.std.specs.Prelude.{◌≡◌, ℕ, Bool, true, false, cond, ◌&&◌, List, is_some, Some, None, Ok, Err, Option, Result, ◌==◌, nat_le, slice_set}
+use Rattle.std.specs.Prelude.{◌≡◌, ℕ, Bool, true, false, if◌then◌else◌, ◌&&◌, List, is_some, Some, None, Ok, Err, Option, Result, ◌==◌, nat_le, slice_set}
 use Rattle.plan.specs.declared.place.Place.{Place}
 use Rattle.plan.specs.declared.place.Place.TheVariants.{OwnPenalty, Row}
 use Rattle.plan.specs.declared.refusals.Refusal.{Refusal}
@@ -56,8 +56,10 @@ largest_amount x e c (Row p) = row_least x e c p
 -- why an amount is not lifted, if it is not
 abbrev pub lift_refusal : Tables → Place → ℕ → ℕ → ℕ → Option Refusal
 lift_refusal x from e c amount =
-    cond (is_some x.hand) (Some HandNotEmpty)
-    (cond (is_open x e c && is_place x e from) (cond (nat_le 1 amount && nat_le amount (largest_amount x e c from)) None (Some AmountOutOfRange)) (Some Absent))
+    if is_some x.hand then Some HandNotEmpty
+    else if is_open x e c && is_place x e from then
+    (if nat_le 1 amount && nat_le amount (largest_amount x e c from) then None else Some AmountOutOfRange)
+    else Some Absent
 
 -- the amount is taken off each number drawn on, and is in hand
 abbrev pub lifted : (ℕ → ℕ → ℕ) → Tables → Place → ℕ → ℕ → ℕ → Tables
@@ -83,7 +85,7 @@ is_in_hand (Some h) e c amount = h.entry == e && (h.candidate == c && h.amount =
 
 -- why an amount is not set down, if it is not
 abbrev pub set_refusal : Tables → ℕ → ℕ → ℕ → Place → Option Refusal
-set_refusal x e c amount to = cond (is_in_hand x.hand e c amount) (cond (is_place x e to) None (Some Absent)) (Some NotInHand)
+set_refusal x e c amount to = if is_in_hand x.hand e c amount then (if is_place x e to then None else Some Absent) else Some NotInHand
 
 -- the amount is joined to each number, and the hand is empty
 abbrev pub set_down_in : (ℕ → ℕ → ℕ) → Tables → ℕ → ℕ → ℕ → Place → Tables

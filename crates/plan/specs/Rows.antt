@@ -1,5 +1,5 @@
 -- Rows: the cells of a pair at a candidate, with the open candidates of the other entry.
-use Rattle.std.specs.Prelude.{◌≡◌, ℕ, ◌<◌, zero, suc, min, Bool, true, false, cond, ◌&&◌, ◌||◌, List, Some, None, Option, ◌==◌, nat_lt, slice_index, slice_index_or, slice_set}
+use Rattle.std.specs.Prelude.{◌≡◌, ℕ, ◌<◌, zero, suc, min, Bool, true, false, if◌then◌else◌, ◌&&◌, ◌||◌, List, Some, None, Option, ◌==◌, nat_lt, slice_index, slice_index_or, slice_set}
 use Rattle.std.specs.Option.{unwrap_or}
 use Rattle.plan.specs.declared.tables.Tables.{Tables}
 use Rattle.plan.specs.Layout.{cell_place, count_of, open_at, first_of, second_of}
@@ -47,11 +47,11 @@ abbrev pub is_first : Tables → ℕ → ℕ → Bool
 is_first x e p = first_of x p == e
 
 abbrev pub other_of : Tables → ℕ → ℕ → ℕ
-other_of x e p = cond (is_first x e p) (second_of x p) (first_of x p)
+other_of x e p = if is_first x e p then second_of x p else first_of x p
 
 -- the place of the cell of the candidate c and the candidate k of the other entry
 abbrev pub row_place : Bool → ℕ → ℕ → ℕ → ℕ
-row_place ahead p c k = cell_place p (cond ahead c k) (cond ahead k c)
+row_place ahead p c k = cell_place p (if ahead then c else k) (if ahead then k else c)
 
 -- the least number of the row at the candidate c of the entry e in the pair p; 0 where the row is empty
 abbrev pub row_least : Tables → ℕ → ℕ → ℕ → ℕ

@@ -1,5 +1,5 @@
 -- Settling: sweeps, up to a number of them, until one changes nothing.
-use Rattle.std.specs.Prelude.{ℕ, zero, suc, ◌+◌, Bool, true, false, cond, ◌&&◌, Some, None, Ok, Err, Option, Result, ◌==◌, nat_eq, nat_le}
+use Rattle.std.specs.Prelude.{ℕ, zero, suc, ◌+◌, Bool, true, false, if◌then◌else◌, ◌&&◌, Some, None, Ok, Err, Option, Result, ◌==◌, nat_eq, nat_le}
 use Rattle.std.specs.Cmp.Lexicographic.{pointwise}
 use Rattle.std.specs.Bool.{beq}
 use Rattle.plan.specs.declared.refusals.Refusal.{Refusal}
@@ -46,7 +46,7 @@ after_sweeps join rest (suc n) x = one_more join rest (after_sweeps join rest n 
 
 -- 0 to 16 sweeps are allowed
 abbrev pub settle_refusal : ℕ → Option Refusal
-settle_refusal n = cond (nat_le n 16) None (Some TooManySweeps)
+settle_refusal n = if nat_le n 16 then None else Some TooManySweeps
 
 -- what settling answers of it
 abbrev pub as_settled : Progress → Settled

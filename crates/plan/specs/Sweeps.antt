@@ -1,5 +1,5 @@
 -- A sweep: penalties are moved from rows to own penalties and from own penalties to the floor, and candidates are closed.
-use Rattle.std.specs.Prelude.{ℕ, zero, suc, cond, List, Option}
+use Rattle.std.specs.Prelude.{ℕ, zero, suc, if◌then◌else◌, List, Option}
 use Rattle.std.specs.Option.{unwrap_or}
 use Rattle.plan.specs.declared.place.Place.TheVariants.{OwnPenalty, Row}
 use Rattle.plan.specs.declared.tables.Hand.{Hand}
@@ -20,7 +20,7 @@ moved_to_own join rest m e p c x = adjusted (λ v. join v m) (adjusted (λ v. re
 
 -- where the candidate c of the entry e is open, the least of its row in the pair p is so moved
 abbrev pub row_to_own : (ℕ → ℕ → ℕ) → (ℕ → ℕ → ℕ) → ℕ → ℕ → ℕ → Tables → Tables
-row_to_own join rest e p c x = cond (open_at x e c) (moved_to_own join rest (row_least x e c p) e p c x) x
+row_to_own join rest e p c x = if open_at x e c then moved_to_own join rest (row_least x e c p) e p c x else x
 
 -- for each candidate of the entry e in turn
 abbrev pub rows_to_own : (ℕ → ℕ → ℕ) → (ℕ → ℕ → ℕ) → ℕ → ℕ → Tables → Tables

@@ -1,6 +1,7 @@
 // Closing candidates and lowering the bound.
 ghost use Rattle.std.specs.Prelude.{◌≡◌, ℕ, true, None, OnErr};
-ghost use Rattle.plan.specs.Closing.{close_refusal, with_closed, close_answer, close_after, lower_refusal, with_bound, lower_answer, lower_after};
+ghost use Rattle.plan.specs.Closing.{close_refusal, with_closed, close_answer, close_after};
+ghost use Rattle.plan.specs.Closing.{lower_refusal, with_bound, lower_answer, lower_after};
 ghost use Rattle.plan.specs.Keeping.{Keeps};
 ghost use Rattle.plan.specs.Layout.{is_there};
 ghost use Rattle.plan.specs.Plans.{at_ceiling};
@@ -32,7 +33,8 @@ impl<S: Scale> Plan<S> {
     // The own penalty of a candidate, joined with an amount in hand for it.
     fn weight(&self, entry: usize, candidate: usize) -> u32
         requires there { is_there self.now.tables entry candidate ≡ true }
-        ensures is_its_weight { result ≡ weight (at_ceiling S.join self.now) self.now.tables entry candidate }
+        ensures is_its_weight { result ≡ weight (at_ceiling S.join self.now) self.now.tables entry
+            candidate }
     {
         let own = self.tables.entries.own[8 * entry + candidate];
         self.join(own, self.held_for(entry, candidate))
@@ -40,7 +42,8 @@ impl<S: Scale> Plan<S> {
 
     // A candidate may be closed.
     fn check_close(&self, entry: usize, candidate: usize) -> Result<(), Refusal>
-        ensures is_the_first_refusal { Finds (close_refusal (at_ceiling S.join self.now) self.now.tables entry candidate) result }
+        ensures is_the_first_refusal { Finds (close_refusal (at_ceiling S.join self.now)
+            self.now.tables entry candidate) result }
     {
         if self.is_open(entry, candidate) != Some(true) {
             return Err(Refusal::Absent);
@@ -56,12 +59,15 @@ impl<S: Scale> Plan<S> {
     // Closes a candidate when the floor joined with its weight is at least the bound.
     #[tactic(auto, using(crate::proofs::Keepings::keeps_refl))]
     pub fn close(&mut self, entry: usize, candidate: usize) -> Result<(), Refusal>
-        ensures answers { result ≡ close_answer (at_ceiling S.join self.old) self.old.tables entry candidate }
-        ensures leaves { self.new.tables ≡ close_after (at_ceiling S.join self.old) self.old.tables entry candidate }
+        ensures answers { result ≡ close_answer (at_ceiling S.join self.old) self.old.tables entry
+            candidate }
+        ensures leaves { self.new.tables
+            ≡ close_after (at_ceiling S.join self.old) self.old.tables entry candidate }
         ensures refusal_changes_nothing { OnErr result (self.new.tables ≡ self.old.tables) }
         ensures keeps_its_scale { self.new.scale ≡ self.old.scale }
         ensures keeps_the_hand { self.new.tables.hand ≡ self.old.tables.hand }
-        ensures keeps_every_cheap_tuning { Keeps (at_ceiling S.join self.old) self.old.tables self.new.tables }
+        ensures keeps_every_cheap_tuning { Keeps (at_ceiling S.join self.old) self.old.tables
+            self.new.tables }
     {
         self.check_close(entry, candidate)?;
         self.tables.entries.marks[8 * entry + candidate] = false;
@@ -87,7 +93,8 @@ impl<S: Scale> Plan<S> {
         ensures refusal_changes_nothing { OnErr result (self.new.tables ≡ self.old.tables) }
         ensures keeps_its_scale { self.new.scale ≡ self.old.scale }
         ensures keeps_the_hand { self.new.tables.hand ≡ self.old.tables.hand }
-        ensures keeps_every_cheap_tuning { Keeps (at_ceiling S.join self.old) self.old.tables self.new.tables }
+        ensures keeps_every_cheap_tuning { Keeps (at_ceiling S.join self.old) self.old.tables
+            self.new.tables }
     {
         self.check_lower(bound)?;
         self.tables.limits.bound = bound;

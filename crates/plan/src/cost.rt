@@ -13,15 +13,19 @@ use scale::Scale;
 use scale::joined::joined_penalty;
 
 impl<S: Scale> Plan<S> {
-    // What an open tuning costs: the floor, its own penalties, its cell of every pair and any amount in hand for its
-    // candidates, joined. Anything but an open tuning is refused.
+    // What an open tuning costs: the floor, its own penalties, its cell of every pair and any
+    // amount in hand for its candidates, joined. Anything but an open tuning is refused.
     #[tactic(auto, using(crate::proofs::OpenTunings::open_tuning, crate::proofs::OpenTunings::is_open_from))]
     pub fn cost(&self, tuning: &[usize]) -> Result<u32, Refusal>
-        ensures answers { result ≡ cost_answer (at_ceiling S.join self.now) self.now.tables tuning.now }
-        ensures accepts_exactly_open_tunings { IsTrue (is_ok result) ↔ (OpenTuning self.now.tables tuning.now) }
-        ensures capped_sum_on_the_sum_scale { IfOk result (λ v. S.join self.now.scale ≡ clamped sum_join
+        ensures answers { result ≡ cost_answer (at_ceiling S.join self.now) self.now.tables
+            tuning.now }
+        ensures accepts_exactly_open_tunings { IsTrue (is_ok result) ↔
+            (OpenTuning self.now.tables tuning.now) }
+        ensures capped_sum_on_the_sum_scale { IfOk result
+            (λ v. S.join self.now.scale ≡ clamped sum_join
             → v ≡ min self.now.tables.limits.ceiling (sum (parts self.now.tables tuning.now))) }
-        ensures largest_on_the_worst_scale { IfOk result (λ v. S.join self.now.scale ≡ clamped worst_join
+        ensures largest_on_the_worst_scale { IfOk result
+            (λ v. S.join self.now.scale ≡ clamped worst_join
             → v ≡ min self.now.tables.limits.ceiling (largest (parts self.now.tables tuning.now))) }
     {
         if !self.is_open_tuning(tuning) {
@@ -37,7 +41,8 @@ impl<S: Scale> Plan<S> {
         ensures capped_sum_on_the_sum_scale { S.join self.now.scale ≡ clamped sum_join
             → result ≡ min self.now.tables.limits.ceiling (sum (parts self.now.tables tuning.now)) }
         ensures largest_on_the_worst_scale { S.join self.now.scale ≡ clamped worst_join
-            → result ≡ min self.now.tables.limits.ceiling (largest (parts self.now.tables tuning.now)) }
+            → result ≡ min self.now.tables.limits.ceiling
+            (largest (parts self.now.tables tuning.now)) }
     {
         let parts = self.gather(tuning);
         joined_penalty(&self.scale, self.tables.limits.ceiling, parts.as_slice())

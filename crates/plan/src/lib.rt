@@ -1,5 +1,5 @@
-// A plan: entries with their candidates, the penalties of candidates and of pairs of candidates, and the limits of them
-// all. Published as a weighted constraint network.
+// A plan: entries with their candidates, the penalties of candidates and of pairs of candidates,
+// and the limits of them all. Published as a weighted constraint network.
 #![tactic(auto)]
 
 ghost use Rattle.plan.specs.Invariant.{Sound};
@@ -22,7 +22,8 @@ mod sweep;
 pub mod tables;
 pub mod token;
 
-// A plan on a scale. What it holds stands in plain tables, of which the invariant holds in every plan.
+// A plan on a scale. What it holds stands in plain tables, of which the invariant holds in every
+// plan.
 #[derive(Drop)]
 pub struct Plan<S> {
     scale: S,

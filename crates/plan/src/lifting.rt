@@ -2,7 +2,9 @@
 ghost use Rattle.std.specs.Prelude.{◌≡◌, ℕ, true, IfErr, IfOk, OnErr, None};
 ghost use Rattle.plan.specs.Keeping.{Keeps};
 ghost use Rattle.plan.specs.Layout.{is_there};
-ghost use Rattle.plan.specs.Lifting.{CanAdjust, adjusted, is_place, largest_amount, lift_refusal, lifted, lift_answer, lift_after, is_in_hand, set_refusal, set_down_in, set_answer, set_after};
+ghost use Rattle.plan.specs.Lifting.{CanAdjust, adjusted, is_place, largest_amount, lift_refusal};
+ghost use Rattle.plan.specs.Lifting.{lifted, lift_answer, lift_after, is_in_hand, set_refusal};
+ghost use Rattle.plan.specs.Lifting.{set_down_in, set_answer, set_after};
 ghost use Rattle.plan.specs.Plans.{at_ceiling};
 ghost use Rattle.plan.specs.Refusing.{Finds};
 ghost use Rattle.plan.specs.Rows.{Computes};
@@ -15,7 +17,8 @@ use crate::token::Token;
 use scale::Scale;
 
 impl Tables {
-    // Makes of each number at a candidate, in its own penalty or in a row at it, what `change` makes of it.
+    // Makes of each number at a candidate, in its own penalty or in a row at it, what `change`
+    // makes of it.
     pub(crate) fn adjust<F: Fn(u32) -> u32>(
         &mut self,
         entry: usize,
@@ -53,7 +56,8 @@ impl Tables {
     // Joins an amount to each number at a place, and empties the hand.
     fn put_down<S: Scale>(&mut self, scale: &S, held: Hand, to: Place)
         requires can { CanAdjust self.old held.entry held.candidate to }
-        ensures sets_it_down { self.new ≡ set_down_in (S.join scale.now self.old.limits.ceiling) self.old
+        ensures sets_it_down { self.new ≡ set_down_in (S.join scale.now self.old.limits.ceiling)
+            self.old
             held.entry held.candidate held.amount to }
     {
         let ceiling = self.limits.ceiling;
@@ -79,7 +83,8 @@ impl<S> Plan<S> {
     fn largest_amount(&self, entry: usize, candidate: usize, place: Place) -> u32
         requires there { is_there self.now.tables entry candidate ≡ true }
         requires at { is_place self.now.tables entry place ≡ true }
-        ensures is_the_least_drawn_on { result ≡ largest_amount self.now.tables entry candidate place }
+        ensures is_the_least_drawn_on { result ≡ largest_amount self.now.tables entry candidate
+            place }
     {
         match place {
             Place::OwnPenalty => self.tables.entries.own[8 * entry + candidate],
@@ -89,7 +94,8 @@ impl<S> Plan<S> {
 
     // An amount may be lifted.
     fn check_lift(&self, from: Place, wanted: Hand) -> Result<(), Refusal>
-        ensures is_the_first_refusal { Finds (lift_refusal self.now.tables from wanted.entry wanted.candidate wanted.amount) result }
+        ensures is_the_first_refusal { Finds (lift_refusal self.now.tables from wanted.entry
+            wanted.candidate wanted.amount) result }
     {
         if self.tables.hand.is_some() {
             return Err(Refusal::HandNotEmpty);
@@ -109,14 +115,16 @@ impl<S> Plan<S> {
 
     // Whether a token is what is in hand.
     fn is_in_hand(&self, token: &Token) -> bool
-        ensures is_so { result ≡ is_in_hand self.now.tables.hand token.now.entry token.now.candidate token.now.amount }
+        ensures is_so { result ≡ is_in_hand self.now.tables.hand token.now.entry
+            token.now.candidate token.now.amount }
     {
         self.tables.hand == Some(token.holds())
     }
 
     // A token may be set down.
     fn check_set_down(&self, token: &Token, to: Place) -> Result<(), Refusal>
-        ensures is_the_first_refusal { Finds (set_refusal self.now.tables token.now.entry token.now.candidate token.now.amount to)
+        ensures is_the_first_refusal { Finds (set_refusal self.now.tables token.now.entry
+            token.now.candidate token.now.amount to)
             result }
     {
         if !self.is_in_hand(token) {
@@ -130,7 +138,8 @@ impl<S> Plan<S> {
 }
 
 impl<S: Scale> Plan<S> {
-    // Takes an amount off a candidate's own penalty, or off the open cells of a row at it, and puts it in hand.
+    // Takes an amount off a candidate's own penalty, or off the open cells of a row at it, and puts
+    // it in hand.
     #[tactic(auto, using(crate::proofs::Keepings::keeps_refl))]
     pub fn lift(
         &mut self,
@@ -140,13 +149,15 @@ impl<S: Scale> Plan<S> {
         amount: u32,
     ) -> Result<Token, Refusal>
         ensures answers { result ≡ lift_answer self.old.tables from entry candidate amount }
-        ensures the_token_is_in_hand { IfOk result (λ token. is_in_hand self.new.tables.hand token.entry token.candidate token.amount
+        ensures the_token_is_in_hand { IfOk result
+            (λ token. is_in_hand self.new.tables.hand token.entry token.candidate token.amount
             ≡ true) }
         ensures leaves { self.new.tables ≡ lift_after (at_ceiling S.rest self.old) self.old.tables
             from entry candidate amount }
         ensures refusal_changes_nothing { OnErr result (self.new.tables ≡ self.old.tables) }
         ensures keeps_its_scale { self.new.scale ≡ self.old.scale }
-        ensures keeps_every_cheap_tuning { Keeps (at_ceiling S.join self.old) self.old.tables self.new.tables }
+        ensures keeps_every_cheap_tuning { Keeps (at_ceiling S.join self.old) self.old.tables
+            self.new.tables }
     {
         let held = Hand {
             entry,
@@ -158,7 +169,8 @@ impl<S: Scale> Plan<S> {
         Ok(Token::of(held))
     }
 
-    // Joins the amount in hand to a candidate's own penalty, or to the open cells of a row at it. A refused token comes back.
+    // Joins the amount in hand to a candidate's own penalty, or to the open cells of a row at it. A
+    // refused token comes back.
     #[tactic(auto, using(crate::proofs::Keepings::keeps_refl))]
     pub fn set_down(&mut self, token: Token, to: Place) -> Result<(), (Refusal, Token)>
         ensures answers { result ≡ set_answer self.old.tables token to }
@@ -167,7 +179,8 @@ impl<S: Scale> Plan<S> {
             token.entry token.candidate token.amount to }
         ensures refusal_changes_nothing { OnErr result (self.new.tables ≡ self.old.tables) }
         ensures keeps_its_scale { self.new.scale ≡ self.old.scale }
-        ensures keeps_every_cheap_tuning { Keeps (at_ceiling S.join self.old) self.old.tables self.new.tables }
+        ensures keeps_every_cheap_tuning { Keeps (at_ceiling S.join self.old) self.old.tables
+            self.new.tables }
     {
         if let Err(refusal) = self.check_set_down(&token, to) {
             return Err((refusal, token));

@@ -1,11 +1,15 @@
-// Sweeps: penalties move from rows to own penalties and on to the floor, and candidates that may be closed are closed.
+// Sweeps: penalties move from rows to own penalties and on to the floor, and candidates that may be
+// closed are closed.
 ghost use Rattle.std.specs.Prelude.{◌≡◌, ℕ, ◌<◌, true};
 ghost use Rattle.plan.specs.Invariant.{Sound};
 ghost use Rattle.plan.specs.Layout.{is_there};
 ghost use Rattle.plan.specs.Lifting.{CanAdjust, with_own_list};
 ghost use Rattle.plan.specs.Plans.{at_ceiling, KeepsFrame};
 ghost use Rattle.plan.specs.Rows.{Computes, is_at};
-ghost use Rattle.plan.specs.Sweeps.{moved_to_own, row_to_own, rows_to_own, pair_to_own, pairs_to_own, own_least, own_changed, moved_to_floor, entry_to_floor, entries_to_floor, entry_closed, entries_closed, sweep as swept_once};
+ghost use Rattle.plan.specs.Sweeps.{moved_to_own, row_to_own, rows_to_own, pair_to_own};
+ghost use Rattle.plan.specs.Sweeps.{pairs_to_own, own_least, own_changed, moved_to_floor};
+ghost use Rattle.plan.specs.Sweeps.{entry_to_floor, entries_to_floor, entry_closed, entries_closed};
+ghost use Rattle.plan.specs.Sweeps.{sweep as swept_once};
 ghost use Rattle.plan.specs.declared.place.Place.TheVariants.{Row};
 
 use crate::Plan;
@@ -89,7 +93,8 @@ impl<S: Scale> Plan<S> {
     fn row_to_own(&mut self, entry: usize, pair: usize, candidate: usize)
         requires there { is_there self.old.tables entry candidate ≡ true }
         requires at { is_at self.old.tables entry pair ≡ true }
-        ensures moves_it { self.new.tables ≡ row_to_own (at_ceiling S.join self.old) (at_ceiling S.rest self.old)
+        ensures moves_it { self.new.tables
+            ≡ row_to_own (at_ceiling S.join self.old) (at_ceiling S.rest self.old)
             entry pair candidate self.old.tables }
         ensures keeps_its_frame { KeepsFrame self.old self.new }
     {
@@ -104,7 +109,8 @@ impl<S: Scale> Plan<S> {
     fn rows_to_own(&mut self, e: usize, pair: usize)
         requires there { e < self.old.tables.entries.number }
         requires at { is_at self.old.tables e pair ≡ true }
-        ensures moves_them { self.new.tables ≡ rows_to_own (at_ceiling S.join self.old) (at_ceiling S.rest self.old)
+        ensures moves_them { self.new.tables
+            ≡ rows_to_own (at_ceiling S.join self.old) (at_ceiling S.rest self.old)
             e pair self.old.tables }
         ensures keeps_its_frame { KeepsFrame self.old self.new }
     {
@@ -116,7 +122,8 @@ impl<S: Scale> Plan<S> {
     // For the first entry of a pair and then for the second.
     fn pair_to_own(&mut self, pair: usize)
         requires there { pair < self.old.tables.pairs.number }
-        ensures moves_them { self.new.tables ≡ pair_to_own (at_ceiling S.join self.old) (at_ceiling S.rest self.old)
+        ensures moves_them { self.new.tables
+            ≡ pair_to_own (at_ceiling S.join self.old) (at_ceiling S.rest self.old)
             pair self.old.tables }
         ensures keeps_its_frame { KeepsFrame self.old self.new }
     {
@@ -127,7 +134,8 @@ impl<S: Scale> Plan<S> {
 
     // In each pair.
     fn pairs_to_own(&mut self)
-        ensures moves_them { self.new.tables ≡ pairs_to_own (at_ceiling S.join self.old) (at_ceiling S.rest self.old)
+        ensures moves_them { self.new.tables
+            ≡ pairs_to_own (at_ceiling S.join self.old) (at_ceiling S.rest self.old)
             self.old.tables }
         ensures keeps_its_frame { KeepsFrame self.old self.new }
     {
@@ -139,7 +147,8 @@ impl<S: Scale> Plan<S> {
     // Moves the least own penalty of the open candidates of an entry to the floor.
     fn entry_to_floor(&mut self, entry: usize)
         requires there { entry < self.old.tables.entries.number }
-        ensures moves_it { self.new.tables ≡ entry_to_floor (at_ceiling S.join self.old) (at_ceiling S.rest self.old)
+        ensures moves_it { self.new.tables
+            ≡ entry_to_floor (at_ceiling S.join self.old) (at_ceiling S.rest self.old)
             entry self.old.tables }
         ensures keeps_its_frame { KeepsFrame self.old self.new }
     {
@@ -149,7 +158,8 @@ impl<S: Scale> Plan<S> {
 
     // For each entry.
     fn entries_to_floor(&mut self)
-        ensures moves_them { self.new.tables ≡ entries_to_floor (at_ceiling S.join self.old) (at_ceiling S.rest self.old)
+        ensures moves_them { self.new.tables
+            ≡ entries_to_floor (at_ceiling S.join self.old) (at_ceiling S.rest self.old)
             self.old.tables }
         ensures keeps_its_frame { KeepsFrame self.old self.new }
     {
@@ -183,7 +193,8 @@ impl<S: Scale> Plan<S> {
 
     // One sweep.
     pub(crate) fn sweep(&mut self)
-        ensures sweeps { self.new.tables ≡ swept_once (at_ceiling S.join self.old) (at_ceiling S.rest self.old)
+        ensures sweeps { self.new.tables
+            ≡ swept_once (at_ceiling S.join self.old) (at_ceiling S.rest self.old)
             self.old.tables }
         ensures keeps_its_frame { KeepsFrame self.old self.new }
     {

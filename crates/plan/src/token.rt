@@ -4,8 +4,8 @@ ghost use Rattle.plan.specs.Lifting.{lift_token};
 
 use crate::tables::Hand;
 
-// An amount that was lifted for a candidate. It may be let go only once a set-down has spent it: `spent` is what its
-// drop demands, a rule of the project, and no token says so before it is gone.
+// An amount that was lifted for a candidate. It may be let go only once a set-down has spent it:
+// `spent` is what its drop demands, a rule of the project, and no token says so before it is gone.
 pub struct Token {
     entry: usize,
     candidate: usize,
@@ -55,7 +55,8 @@ impl Token {
 
     // The amount that it stands for, with its entry and candidate.
     pub fn holds(&self) -> Hand
-        ensures is_what_it_holds { result ≡ record { entry = self.now.entry; candidate = self.now.candidate; amount = self.now.amount } }
+        ensures is_what_it_holds { result ≡ record
+            { entry = self.now.entry; candidate = self.now.candidate; amount = self.now.amount } }
     {
         Hand {
             entry: self.entry,

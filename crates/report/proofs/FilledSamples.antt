@@ -3,16 +3,17 @@ use Rattle.std.proofs.Common.{◌≡◌, ℕ, List, Some, None, Ok, Option, sym,
 use Rattle.plan.specs.declared.refusals.FillFault.{FillFault}
 use Rattle.plan.specs.declared.tables.Tables.{Tables}
 use Rattle.plan.specs.Faults.{fill_fault}
-use Rattle.plan.specs.Filling.{answer_to, left_by, filled_tables, fill_answer, fill_after}
+use Rattle.plan.specs.Filling.{filled_tables, fill_answer, fill_after}
 use Rattle.plan.specs.Fresh.{new_tables}
+use Rattle.plan.specs.Refusing.{answered, unless_refused}
 use Rattle.report.specs.PlanReports.{sample_counts, sample_own, sample_pairs, tuning_lines, filled_lines, plan_lines}
 
 abbrev filled : ℕ → Tables
 filled c = filled_tables c sample_counts sample_own sample_pairs
 
 module _ (name : List ℕ) (join : ℕ → ℕ → ℕ → ℕ) (c : ℕ) (before : List ℕ) (y : Tables) where
-  by_fault : (o : Option FillFault) → Ok tt ≡ answer_to o → y ≡ left_by o new_tables (filled c) →
-      filled_lines name (join c) (answer_to o) (left_by o new_tables (filled c)) before
+  by_fault : (o : Option FillFault) → Ok tt ≡ answered o → y ≡ unless_refused o new_tables (filled c) →
+      filled_lines name (join c) (answered o) (unless_refused o new_tables (filled c)) before
       ≡ tuning_lines name (join y.limits.ceiling) y before
   by_fault None e h =
       ap (λ (z : Tables). tuning_lines name (join z.limits.ceiling) z before) (sym h)

@@ -1,5 +1,5 @@
 -- Text as lists of bytes: cut into pieces, and read as a value.
-use Rattle.std.specs.Prelude.{ℕ, ◌+◌, ◌-◌, ◌*◌, Bool, cond, not, ◌&&◌, ◌||◌, List, [], ◌∷◌, length, Some, None, Option, ◌==◌, nat_le, slice_index}
+use Rattle.std.specs.Prelude.{ℕ, ◌+◌, ◌-◌, ◌*◌, Bool, if◌then◌else◌, not, ◌&&◌, ◌||◌, List, [], ◌∷◌, length, Some, None, Option, ◌==◌, nat_le, slice_index}
 use Rattle.std.specs.Str.{all_ascii_digits}
 
 -- pieces with one byte more at the front of the first
@@ -10,7 +10,7 @@ onto_first b (p ∷ ps) = (b ∷ p) ∷ ps
 -- what stands before, between and after the separators: one piece more than there are separators
 abbrev pub pieces : ℕ → List ℕ → List (List ℕ)
 pieces separator [] = [] ∷ []
-pieces separator (b ∷ bs) = cond (b == separator) ([] ∷ pieces separator bs) (onto_first b (pieces separator bs))
+pieces separator (b ∷ bs) = if b == separator then [] ∷ pieces separator bs else onto_first b (pieces separator bs)
 
 -- the number that digits write behind those of n
 abbrev pub read_on : ℕ → List ℕ → ℕ
@@ -23,4 +23,4 @@ shaped bs = nat_le 1 (length bs) && (nat_le (length bs) 7 && (length bs == 1 || 
 
 -- a value is 1 to 7 decimal digits without a leading zero, except 0 itself
 abbrev pub value : List ℕ → Option ℕ
-value bs = cond (shaped bs && all_ascii_digits bs) (Some (read_on 0 bs)) None
+value bs = if shaped bs && all_ascii_digits bs then Some (read_on 0 bs) else None

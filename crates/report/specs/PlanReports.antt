@@ -1,5 +1,5 @@
 -- What is written for a plan that the program has as data: two entries of two candidates, and one pair.
-use Rattle.std.specs.Prelude.{ℕ, cond, List, [], ◌∷◌, ◌++◌, Some, None, Ok, Err, codes, decimal, Option, Result}
+use Rattle.std.specs.Prelude.{ℕ, if◌then◌else◌, List, [], ◌∷◌, ◌++◌, Some, None, Ok, Err, codes, decimal, Option, Result}
 use Rattle.std.specs.Result.{result_ok}
 use Rattle.scale.specs.Ceilings.{clamped}
 use Rattle.scale.specs.Sums.{sum_join}
@@ -31,9 +31,9 @@ and_then (Some x) next = next x
 -- what the tuning of the candidates a and b pays, and what that comes to
 abbrev pub paid_by : (ℕ → ℕ → ℕ) → Tables → ℕ → ℕ → Option Paid
 paid_by join x a b =
-    and_then (cond (is_there x 0 a) (Some (own_of x 0 a)) None) (λ first.
-    and_then (cond (is_there x 1 b) (Some (own_of x 1 b)) None) (λ second.
-    and_then (cond (is_cell x 0 a b) (Some (cell_of x 0 a b)) None) (λ cell.
+    and_then (if is_there x 0 a then Some (own_of x 0 a) else None) (λ first.
+    and_then (if is_there x 1 b then Some (own_of x 1 b) else None) (λ second.
+    and_then (if is_cell x 0 a b then Some (cell_of x 0 a b) else None) (λ cell.
     and_then (result_ok (cost_answer join x (a ∷ b ∷ []))) (λ cost.
     Some (record { floor = x.limits.floor; first = first; second = second; cell = cell; cost = cost })))))
 

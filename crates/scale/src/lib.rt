@@ -1,5 +1,5 @@
-// How penalties join. A scale is a trait with its laws; the sum and the worst scale keep them, and the joined penalty
-// of a list is one function for every scale.
+// How penalties join. A scale is a trait with its laws; the sum and the worst scale keep them, and
+// the joined penalty of a list is one function for every scale.
 #![tactic(auto)]
 
 ghost use Rattle.std.specs.Prelude.{◌≡◌, ℕ};
@@ -11,8 +11,8 @@ pub mod joined;
 pub mod sum;
 pub mod worst;
 
-// A way to join two penalties under a ceiling, and to take one off another. Published as a valuation structure: `join`
-// is its addition ⊕, `rest` its subtraction ⊖, and the ceiling its top.
+// A way to join two penalties under a ceiling, and to take one off another. Published as a
+// valuation structure: `join` is its addition ⊕, `rest` its subtraction ⊖, and the ceiling its top.
 pub trait Scale {
     // What `join` and `rest` mean, given the scale, a ceiling and two penalties.
     ghost join: { Self → ℕ → ℕ → ℕ → ℕ };
