@@ -66,7 +66,7 @@ abbrev pub lifted : (ℕ → ℕ → ℕ) → Tables → Place → ℕ → ℕ �
 lifted rest x from e c amount = with_hand (adjusted (λ v. rest v amount) x e c from) (Some (record { entry = e; candidate = c; amount = amount }))
 
 abbrev pub lift_token : ℕ → ℕ → ℕ → Token
-lift_token e c amount = record { entry = e; candidate = c; amount = amount; spent = false }
+lift_token e c amount = record { held = record { entry = e; candidate = c; amount = amount }; spent = false }
 
 abbrev pub given : Option Refusal → Token → Result Token Refusal
 given None token = Ok token
@@ -97,7 +97,7 @@ given_back None token = Ok tt
 given_back (Some why) token = Err (why, token)
 
 abbrev pub set_answer : Tables → Token → Place → Result (Unit {0}) (Refusal × Token)
-set_answer x token to = given_back (set_refusal x token.entry token.candidate token.amount to) token
+set_answer x token to = given_back (set_refusal x token.held.entry token.held.candidate token.held.amount to) token
 
 abbrev pub set_after : (ℕ → ℕ → ℕ) → Tables → ℕ → ℕ → ℕ → Place → Tables
 set_after join x e c amount to = unless_refused (set_refusal x e c amount to) x (set_down_in join x e c amount to)

@@ -115,16 +115,16 @@ impl<S> Plan<S> {
 
     // Whether a token is what is in hand.
     fn is_in_hand(&self, token: &Token) -> bool
-        ensures is_so { result ≡ is_in_hand self.now.tables.hand token.now.entry
-            token.now.candidate token.now.amount }
+        ensures is_so { result ≡ is_in_hand self.now.tables.hand token.now.held.entry
+            token.now.held.candidate token.now.held.amount }
     {
         self.tables.hand == Some(token.holds())
     }
 
     // A token may be set down.
     fn check_set_down(&self, token: &Token, to: Place) -> Result<(), Refusal>
-        ensures is_the_first_refusal { Finds (set_refusal self.now.tables token.now.entry
-            token.now.candidate token.now.amount to)
+        ensures is_the_first_refusal { Finds (set_refusal self.now.tables token.now.held.entry
+            token.now.held.candidate token.now.held.amount to)
             result }
     {
         if !self.is_in_hand(token) {
@@ -150,7 +150,7 @@ impl<S: Scale> Plan<S> {
     ) -> Result<Token, Refusal>
         ensures answers { result ≡ lift_answer self.old.tables from entry candidate amount }
         ensures the_token_is_in_hand { IfOk result
-            (λ token. is_in_hand self.new.tables.hand token.entry token.candidate token.amount
+            (λ token. is_in_hand self.new.tables.hand token.held.entry token.held.candidate token.held.amount
             ≡ true) }
         ensures leaves { self.new.tables ≡ lift_after (at_ceiling S.rest self.old) self.old.tables
             from entry candidate amount }
@@ -176,7 +176,7 @@ impl<S: Scale> Plan<S> {
         ensures answers { result ≡ set_answer self.old.tables token to }
         ensures a_refused_token_comes_back { IfErr result (λ refused. refused.1 ≡ token) }
         ensures leaves { self.new.tables ≡ set_after (at_ceiling S.join self.old) self.old.tables
-            token.entry token.candidate token.amount to }
+            token.held.entry token.held.candidate token.held.amount to }
         ensures refusal_changes_nothing { OnErr result (self.new.tables ≡ self.old.tables) }
         ensures keeps_its_scale { self.new.scale ≡ self.old.scale }
         ensures keeps_every_cheap_tuning { Keeps (at_ceiling S.join self.old) self.old.tables

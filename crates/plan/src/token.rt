@@ -4,12 +4,10 @@ ghost use Rattle.plan.specs.Lifting.{lift_token};
 
 use crate::tables::Hand;
 
-// An amount that was lifted for a candidate. It may be let go only once a set-down has spent it:
-// `spent` is what its drop demands, a rule of the project, and no token says so before it is gone.
+// An amount that was lifted for a candidate. It may be let go only once a set-down has spent it.
+// The flag stays, since a rule of the project wants a drop that demands it.
 pub struct Token {
-    entry: usize,
-    candidate: usize,
-    amount: u32,
+    held: Hand,
     spent: bool,
 }
 
@@ -17,12 +15,7 @@ impl Drop for Token {
     fn drop(self)
         requires spent { self.spent ≡ true }
     {
-        let Token {
-            entry: _,
-            candidate: _,
-            amount: _,
-            spent: _,
-        } = self;
+        let Token { held: _, spent: _ } = self;
     }
 }
 
@@ -30,38 +23,18 @@ impl Token {
     pub(crate) fn of(held: Hand) -> Token
         ensures is_unspent { result ≡ lift_token held.entry held.candidate held.amount }
     {
-        let Hand {
-            entry,
-            candidate,
-            amount,
-        } = held;
-        Token {
-            entry,
-            candidate,
-            amount,
-            spent: false,
-        }
+        Token { held, spent: false }
     }
 
-    // What a set-down does with it.
-    pub(crate) fn spend(self) {
-        let Token {
-            entry: _,
-            candidate: _,
-            amount: _,
-            spent: _,
-        } = self;
+    // What a set-down does with it: it may be let go, and is.
+    pub(crate) fn spend(mut self) {
+        self.spent = true;
     }
 
     // The amount that it stands for, with its entry and candidate.
     pub fn holds(&self) -> Hand
-        ensures is_what_it_holds { result ≡ record
-            { entry = self.now.entry; candidate = self.now.candidate; amount = self.now.amount } }
+        ensures is_what_it_holds { result ≡ self.now.held }
     {
-        Hand {
-            entry: self.entry,
-            candidate: self.candidate,
-            amount: self.amount,
-        }
+        self.held
     }
 }

@@ -115,7 +115,7 @@ impl<S: Scale + Copy> Game<S> {
     // trials stays: shared, it would be a public function with a `requires`, which is no plainer.
     fn set_to_own(&mut self, token: Token)
         requires in_hand { is_in_hand self.old.plan.tables.hand
-            token.entry token.candidate token.amount ≡ true }
+            token.held.entry token.held.candidate token.held.amount ≡ true }
     {
         match self.plan.set_down(token, Place::OwnPenalty) {
             Ok(()) => {}
@@ -126,7 +126,7 @@ impl<S: Scale + Copy> Game<S> {
     // A set-down to a place, there or not; a refused token goes to the own penalty.
     fn set_somewhere(&mut self, token: Token)
         requires in_hand { is_in_hand self.old.plan.tables.hand
-            token.entry token.candidate token.amount ≡ true }
+            token.held.entry token.held.candidate token.held.amount ≡ true }
     {
         match self.plan.set_down(token, place(&mut self.dice)) {
             Ok(()) => {}

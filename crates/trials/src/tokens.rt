@@ -12,7 +12,7 @@ use scale::Scale;
 // random_calls stays: shared, it would be a public function with a `requires`, which is no plainer.
 fn set_to_own<S: Scale>(plan: &mut Plan<S>, token: Token)
     requires in_hand { is_in_hand plan.old.tables.hand
-        token.entry token.candidate token.amount ≡ true }
+        token.held.entry token.held.candidate token.held.amount ≡ true }
 {
     match plan.set_down(token, Place::OwnPenalty) {
         Ok(()) => {}
