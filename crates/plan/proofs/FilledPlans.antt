@@ -1,5 +1,5 @@
 -- Tables that lists have filled are sound, and each tuning costs its filled cost.
-use Rattle.std.proofs.Common.{◌≡◌, ℕ, zero, suc, ◌+◌, ◌<◌, ◌≤◌, true, false, List, ◌∷◌, ◌++◌, map, length, get_or, filter, sym, refl, ap, ◌∙◌, ⊎_elim, zero-add, arith}
+use Rattle.std.proofs.Common.{◌≡◌, ℕ, zero, suc, ◌+◌, ◌<◌, ◌≤◌, true, false, List, ◌∷◌, ◌++◌, map, length, get_or, filter, sym, refl, ap, subst, ◌∙◌, ⊎_elim, zero-add, arith}
 use Rattle.std.specs.List.{range_with_len}
 use Rattle.std.proofs.lemmas.List.{get_or_past}
 use Rattle.std.proofs.lemmas.Bool.{cases_Bool, cases_lt, cond_both, and_from, lt-ltb}
@@ -24,7 +24,7 @@ use Rattle.plan.proofs.OwnRows.{length_rows, rows_at, rows_low}
 use Rattle.plan.proofs.PairLists.{first_in, second_in, unmet}
 use Rattle.plan.proofs.RecordCosts.{chosen, pairs_as_records}
 use Rattle.plan.proofs.RecordFaults.{met_by}
-use Rattle.plan.proofs.Tracking.{Holds, held}
+use Rattle.plan.proofs.Tracking.{cell_in, Holds, held}
 use Rattle.plan.proofs.Writes.{written_in, written_low, set_low}
 
 -- a listed pair is the pair of a record
@@ -93,8 +93,8 @@ module _ (c : ℕ) (counts own : List ℕ) (rs : List PairRecord) (fit : ListsFi
     ),
     (
       omega (arith, holds.many, fit.records_fit.few_pairs),
-      (λ p h. omega (arith, ends p h, holds.firsts p h, holds.seconds p h)),
-      (λ p h. omega (arith, ends p h, holds.seconds p h)),
+      (λ p h. subst (λ (pair : ℕ × ℕ). pair.0 < pair.1) (sym (holds.ends p h)) (ends p h).0),
+      (λ p h. subst (λ (pair : ℕ × ℕ). pair.1 < length counts) (sym (holds.ends p h)) (ends p h).1),
       holds.long_cells,
     ),
     (fit.ceiling_low, omega arith, fit.ceiling_high),
@@ -130,7 +130,8 @@ module _ (c : ℕ) (counts own : List ℕ) (rs : List PairRecord) (fit : ListsFi
         let b = tuning.there s (omega arith) in
         let fa = fit.each_few f (omega arith) in
         let fb = fit.each_few s (omega arith) in
-        rw (holds.firsts q l, holds.seconds q l) (holds.cells q (get_or t f 0) (get_or t s 0) l (omega (arith, holds.many, fit.records_fit.few_pairs)) (omega arith) (omega arith))
+        ap (λ (pair : ℕ × ℕ). cell_in x.pairs q (get_or t pair.0 0) (get_or t pair.1 0)) (holds.ends q l)
+        ∙ holds.cells q (get_or t f 0) (get_or t s 0) l (omega (arith, holds.many, fit.records_fit.few_pairs)) (omega arith) (omega arith)
 
     pub costs_filled : cost join x t ≡ filled_cost join counts own rs t
     costs_filled =

@@ -13,17 +13,12 @@ first_in ps q = (get_or ps q (0, 0)).0
 abbrev pub second_in : List (ℕ × ℕ) → ℕ → ℕ
 second_in ps q = (get_or ps q (0, 0)).1
 
-pub first_push : (ps : List (ℕ × ℕ)) (e o q : ℕ) → first_in (ps ++ (e, o) ∷ []) q ≡ cond (eqb q (length ps)) e (first_in ps q)
-first_push [] e o zero = refl
-first_push [] e o (suc q) = grind (arith, nat_tests)
-first_push (p ∷ ps) e o zero = grind (arith, nat_tests)
-first_push (p ∷ ps) e o (suc q) = let rec = first_push ps e o q in grind (arith, nat_tests)
-
-pub second_push : (ps : List (ℕ × ℕ)) (e o q : ℕ) → second_in (ps ++ (e, o) ∷ []) q ≡ cond (eqb q (length ps)) o (second_in ps q)
-second_push [] e o zero = refl
-second_push [] e o (suc q) = grind (arith, nat_tests)
-second_push (p ∷ ps) e o zero = grind (arith, nat_tests)
-second_push (p ∷ ps) e o (suc q) = let rec = second_push ps e o q in grind (arith, nat_tests)
+-- what stands at a place of a list with one more at its end
+pub get_or-push : {A : Type 0} (xs : List A) (x d : A) (q : ℕ) → get_or (xs ++ x ∷ []) q d ≡ cond (eqb q (length xs)) x (get_or xs q d)
+get_or-push [] x d zero = refl
+get_or-push [] x d (suc q) = grind (arith, nat_tests)
+get_or-push (y ∷ xs) x d zero = grind (arith, nat_tests)
+get_or-push (y ∷ xs) x d (suc q) = let rec = get_or-push xs x d q in grind (arith, nat_tests)
 
 module _ (rs : List PairRecord) where
   -- what no record is of is not listed
@@ -35,8 +30,7 @@ module _ (rs : List PairRecord) where
   unmet_more k e o q rec m h f s =
       let ps = pairs_of rs k in
       let r = at rs k in
-      let fp = first_push ps r.entry r.other q in
-      let sp = second_push ps r.entry r.other q in
+      let at_place = get_or-push ps (r.entry, r.other) (0, 0) q in
       let lp = length_push ps (r.entry, r.other) in
       grind (arith, nat_tests)
 
@@ -55,10 +49,8 @@ module _ (rs : List PairRecord) where
       let r = at rs k in
       let ui = unmet k r.entry r.other i in
       let uj = unmet k r.entry r.other j in
-      let fi = first_push ps r.entry r.other i in
-      let si = second_push ps r.entry r.other i in
-      let fj = first_push ps r.entry r.other j in
-      let sj = second_push ps r.entry r.other j in
+      let at_i = get_or-push ps (r.entry, r.other) (0, 0) i in
+      let at_j = get_or-push ps (r.entry, r.other) (0, 0) j in
       let lp = length_push ps (r.entry, r.other) in
       grind (arith, nat_tests)
 
@@ -79,8 +71,7 @@ module _ (rs : List PairRecord) where
       let ps = pairs_of rs k in
       let r = at rs k in
       let q = l.place in
-      let fp = first_push ps r.entry r.other q in
-      let sp = second_push ps r.entry r.other q in
+      let at_place = get_or-push ps (r.entry, r.other) (0, 0) q in
       let lp = length_push ps (r.entry, r.other) in
       record { place = q; within = grind (arith, nat_tests); first_is = grind (arith, nat_tests); second_is = grind (arith, nat_tests) }
 
@@ -90,8 +81,7 @@ module _ (rs : List PairRecord) where
       let ps = pairs_of rs k in
       let r = at rs k in
       let q = length ps in
-      let fp = first_push ps r.entry r.other q in
-      let sp = second_push ps r.entry r.other q in
+      let at_place = get_or-push ps (r.entry, r.other) (0, 0) q in
       let lp = length_push ps (r.entry, r.other) in
       ⊎_elim
       (λ (t : pair_met rs k e o ≡ true). still k e o (listed k e o t))

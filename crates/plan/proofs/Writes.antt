@@ -1,8 +1,9 @@
 -- What stands where after writes one after another.
-use Rattle.std.proofs.Common.{◌≡◌, ℕ, zero, suc, ◌+◌, ◌<◌, ◌≤◌, cond, eqb, List, [], ◌∷◌, ◌++◌, map, length, get_or, take, set, sym, refl, ap, ◌∙◌, ⊎_elim, append_assoc, append-nil, add-zero, add-one, arith}
+use Rattle.std.proofs.Common.{◌≡◌, ℕ, zero, suc, ◌+◌, ◌<◌, ◌≤◌, cond, eqb, List, [], ◌∷◌, ◌++◌, map, length, get_or, take, drop, set, sym, refl, ap, ◌∙◌, ⊎_elim, append_assoc, append-nil, add-zero, add-one, arith}
 use Rattle.std.specs.List.{range_with_len}
-use Rattle.std.proofs.lemmas.List.FromFn.{map-range_with_len_more}
-use Rattle.std.proofs.lemmas.List.{length-set, get_or-set_same, get_or-set_other, take_more_set}
+use Rattle.std.proofs.lemmas.List.FromFn.{map-range_with_len_more, fill_by_all}
+use borrow.Rule.Slice.PartMut.{put_mid}
+use Rattle.std.proofs.lemmas.List.{take-append-drop, drop-drop, drop-set-lt, length-set, get_or-set_same, get_or-set_other, take_more_set}
 use Rattle.std.proofs.lemmas.Bool.{cases_eq}
 use Rattle.std.proofs.lemmas.Bool.Decides.{nat_tests}
 use Rattle.plan.specs.Layout.{written_from}
@@ -46,6 +47,31 @@ module _ {A : Type 0} (o : ℕ) (f : ℕ → A) where
   pub written_before : (n : ℕ) (xs : List A) (i : ℕ) (d : A) → i < o → get_or (written_from o f n xs) i d ≡ get_or xs i d
   written_before zero xs i d h = refl
   written_before (suc n) xs i d h = get_or-set_other (written_from o f n xs) (o + n) i (f n) d (λ (z : i ≡ o + n). omega arith) ∙ written_before n xs i d h
+
+  -- what stands behind them stays, too
+  drop_written : (n m : ℕ) (xs : List A) → o + n ≤ m → drop m (written_from o f n xs) ≡ drop m xs
+  drop_written zero m xs h = refl
+  drop_written (suc n) m xs h = drop-set-lt m (written_from o f n xs) (o + n) (f n) (omega arith) ∙ drop_written n m xs (omega arith)
+
+  pub written_same : (g : ℕ → A) (n : ℕ) (xs : List A) → ((k : ℕ) → k < n → f k ≡ g k) → written_from o f n xs ≡ written_from o g n xs
+  written_same g zero xs h = refl
+  written_same g (suc n) xs h = rw (written_same g n xs (λ k l. h k (omega arith)), h n (omega arith)) refl
+
+-- a list copied over the places from o on
+pub copied : (o k : ℕ) (xs ys zs : List ℕ) → ys ≡ zs → k ≡ length zs → o + k ≤ length xs → put_mid o k xs ys ≡ written_from o (λ i. get_or zs i 0) (length zs) xs
+copied o k xs ys zs is many h =
+    let n = length zs in
+    let f = λ (i : ℕ). get_or zs i 0 in
+    let w = written_from o f n xs in
+    let front = take_written o f n xs (omega arith) in
+    let back = drop_written o f n (o + n) xs (omega arith) in
+    let listed = fill_by_all f zs n 0 refl (λ i l. refl) in
+    rw (is, many) (rw drop-drop (
+    ap (λ ys. take o xs ++ (ys ++ drop (o + n) xs)) listed
+    ∙ sym (append_assoc (take o xs) (map f (range_with_len 0 n)) (drop (o + n) xs))
+    ∙ ap (λ ys. ys ++ drop (o + n) xs) (sym front)
+    ∙ ap (λ ys. take (o + n) w ++ ys) (sym back)
+    ∙ take-append-drop (o + n) w))
 
 -- no number passes c after a write of one that does not
 pub set_low : (c : ℕ) (xs : List ℕ) (i v : ℕ) → v ≤ c → ((k : ℕ) → get_or xs k 0 ≤ c) → (k : ℕ) → get_or (set xs i v) k 0 ≤ c
