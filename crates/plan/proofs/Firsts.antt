@@ -1,12 +1,12 @@
 -- The first fault among places.
-use Rattle.std.proofs.Common.{◌≡◌, ℕ, zero, suc, ◌+◌, ◌<◌, ◌≤◌, Some, None, Option, refl, ap, ⊎_elim, add-one, arith}
+use Rattle.std.proofs.Common.{◌≡◌, ℕ, zero, suc, ◌<◌, ◌≤◌, Some, None, Option, refl, ap, ⊎_elim, arith}
 use Rattle.std.proofs.lemmas.Bool.{cases_eq}
 use Rattle.plan.specs.declared.refusals.Refusal.{Refusal}
 use Rattle.plan.specs.Faults.{or_here, first_fault}
 
 both_none : (k : ℕ) (found : Option (Refusal × ℕ)) (here : Option Refusal) → or_here k found here ≡ None → (found ≡ None) × (here ≡ None)
-both_none k (Some x) here e = let z : ◌≡◌ {A = ℕ} 0 1 = cc in absurd (omega arith)
-both_none k None (Some why) e = let z : ◌≡◌ {A = ℕ} 0 1 = cc in absurd (omega arith)
+both_none k (Some x) here e = cc
+both_none k None (Some why) e = cc
 both_none k None None e = (refl, refl)
 
 module _ (test : ℕ → Option Refusal) where
@@ -22,10 +22,6 @@ module _ (test : ℕ → Option Refusal) where
   -- where none is before, the fault of k is the first
   pub first_here : (n k : ℕ) (why : Refusal) → k < n → first_fault test k ≡ None → test k ≡ Some why → first_fault test n ≡ Some (why, k)
   first_here n k why h none e = stays (suc k) n (why, k) h (rw (none, e))
-
-  -- one place more without a fault
-  pub none_more : (k : ℕ) → first_fault test k ≡ None → test k ≡ None → first_fault test (k + 1) ≡ None
-  none_more k none e = rw (add-one, none, e)
 
   -- there is no first fault exactly where no place has one
   pub none_at : (n k : ℕ) → k < n → first_fault test n ≡ None → test k ≡ None

@@ -1,8 +1,9 @@
 // Whether lists fill a plan: the first fault, in the order of the checks.
-ghost use Rattle.std.specs.Prelude.{◌≡◌, ℕ, ◌<◌, ◌≤◌, ◌&&◌, length, sum, MatchOption, nat_le, nat_lt, slice_index};
+ghost use Rattle.std.specs.Prelude.{◌≡◌, ℕ, ◌<◌, ◌≤◌, ◌&&◌, length, sum, MatchResult, nat_le, nat_lt};
 ghost use Rattle.plan.specs.Faults.{counts_fault, own_fault, names_absent, lone_fault, record_fault, first_fault, in_list, fill_fault};
 ghost use Rattle.plan.specs.Fillable.{Fillable};
 ghost use Rattle.plan.specs.Records.{of_pair, names_cell};
+ghost use Rattle.plan.specs.Refusing.{Finds};
 ghost use Rattle.plan.specs.declared.refusals.FillList.TheVariants.{Pairs};
 
 use crate::records::PairRecord;
@@ -25,46 +26,33 @@ fn too_many(entries: usize) -> bool
 }
 
 // There are 1 to 16 counts, each from 1 to 8.
-fn counts_fault(counts: &[usize]) -> Option<FillFault>
-    ensures is_the_first_fault { result ≡ counts_fault counts.now }
+fn check_counts(counts: &[usize]) -> Result<(), FillFault>
+    ensures is_the_first_fault { Finds (counts_fault counts.now) result }
 {
     if counts.is_empty() {
-        return Some(FillFault {
+        return Err(FillFault {
             refusal: Refusal::CountOutOfRange,
             list: FillList::Counts,
             place: 0,
         });
     }
     if too_many(counts.len()) {
-        return Some(FillFault {
+        return Err(FillFault {
             refusal: Refusal::CountOutOfRange,
             list: FillList::Counts,
             place: MOST_ENTRIES,
         });
     }
-    for (place, count) in counts.iter().enumerate() {
-        if !is_count(*count) {
-            return Some(FillFault {
+    for (place, &count) in counts.iter().enumerate() {
+        if !is_count(count) {
+            return Err(FillFault {
                 refusal: Refusal::CountOutOfRange,
                 list: FillList::Counts,
                 place,
             });
         }
     }
-    None
-}
-
-// The number of all candidates.
-fn total(counts: &[usize]) -> usize
-    requires few { length counts.now ≤ 16 }
-    requires each_few { (e : ℕ) → e < length counts.now → slice_index counts.now e ≤ 8 }
-    ensures is_the_sum { result ≡ sum counts.now }
-{
-    let mut total: usize = 0;
-    for count in counts {
-        total += *count;
-    }
-    total
+    Ok(())
 }
 
 // Whether points are above the ceiling.
@@ -74,30 +62,37 @@ fn is_above(ceiling: u32, points: u32) -> bool
     points > ceiling
 }
 
+// The number of all candidates.
+fn total(counts: &[usize]) -> usize
+    requires few { sum counts.now ≤ 128 }
+    ensures is_the_sum { result ≡ sum counts.now }
+{
+    counts.iter().sum()
+}
+
 // There is an own penalty for each candidate, at most the ceiling.
-fn own_fault(ceiling: u32, counts: &[usize], own: &[u32]) -> Option<FillFault>
-    requires few { length counts.now ≤ 16 }
-    requires each_few { (e : ℕ) → e < length counts.now → slice_index counts.now e ≤ 8 }
-    ensures is_the_first_fault { result ≡ own_fault ceiling counts.now own.now }
+fn check_own(ceiling: u32, counts: &[usize], own: &[u32]) -> Result<(), FillFault>
+    requires few { sum counts.now ≤ 128 }
+    ensures is_the_first_fault { Finds (own_fault ceiling counts.now own.now) result }
 {
     let total = total(counts);
     if own.len() != total {
-        return Some(FillFault {
+        return Err(FillFault {
             refusal: Refusal::OwnLength,
             list: FillList::Own,
             place: total,
         });
     }
-    for (place, points) in own.iter().enumerate() {
-        if is_above(ceiling, *points) {
-            return Some(FillFault {
+    for (place, &points) in own.iter().enumerate() {
+        if is_above(ceiling, points) {
+            return Err(FillFault {
                 refusal: Refusal::PointsAboveCeiling,
                 list: FillList::Own,
                 place,
             });
         }
     }
-    None
+    Ok(())
 }
 
 // Whether a record names what is absent, or its first entry is not the lower one.
@@ -110,17 +105,17 @@ fn names_absent(counts: &[usize], r: &PairRecord) -> bool
         || r.choice >= counts[r.other]
 }
 
-// What is wrong with a record by itself.
-fn lone_fault(ceiling: u32, counts: &[usize], r: &PairRecord) -> Option<Refusal>
-    ensures is_the_first_fault { result ≡ lone_fault ceiling counts.now r.now }
+// A record by itself names what is there, and its points are at most the ceiling.
+fn check_alone(ceiling: u32, counts: &[usize], r: &PairRecord) -> Result<(), Refusal>
+    ensures is_the_first_fault { Finds (lone_fault ceiling counts.now r.now) result }
 {
     if names_absent(counts, r) {
-        return Some(Refusal::RecordOfAbsent);
+        return Err(Refusal::RecordOfAbsent);
     }
     if is_above(ceiling, r.points) {
-        return Some(Refusal::PointsAboveCeiling);
+        return Err(Refusal::PointsAboveCeiling);
     }
-    None
+    Ok(())
 }
 
 // Whether there is no room for a pair more.
@@ -134,59 +129,59 @@ fn is_full(pairs: usize) -> bool
 fn same_pair(s: &PairRecord, r: &PairRecord) -> bool
     ensures is_so { result ≡ of_pair s.now r.now.entry r.now.other }
 {
-    s.entry == r.entry && s.other == r.other
+    (s.entry, s.other) == (r.entry, r.other)
 }
 
 fn same_cell(s: &PairRecord, r: &PairRecord) -> bool
     ensures is_so { result ≡ names_cell s.now r.now.entry r.now.candidate r.now.other r.now.choice }
 {
-    same_pair(s, r) && s.candidate == r.candidate && s.choice == r.choice
+    same_pair(s, r) && (s.candidate, s.choice) == (r.candidate, r.choice)
 }
 
-// The first record with a fault: each is held against those before it, and the loops are left at the first fault.
-fn first_record_fault(
+// Each record is held against those before it. A rule of the project: a repeated cell or a pair too
+// many is sought by nested loops, which are left at the first fault by their label.
+fn check_each(
     ceiling: u32,
     counts: &[usize],
     records: &[PairRecord],
-) -> Option<(Refusal, usize)>
-    ensures is_the_first_fault { result ≡ first_fault (record_fault ceiling counts.now records.now) (length records.now) }
+) -> Result<(), (Refusal, usize)>
+    ensures is_the_first_fault { Finds
+        (first_fault (record_fault ceiling counts.now records.now) (length records.now)) result }
 {
-    let mut fault = None;
     let mut pairs: usize = 0;
-    'records: for i in 0..records.len() {
-        let r = records[i];
-        if let Some(refusal) = lone_fault(ceiling, counts, &r) {
-            fault = Some((refusal, i));
-            break 'records;
-        }
-        let mut known = false;
-        for j in 0..i {
-            let s = records[j];
-            if same_pair(&s, &r) {
-                known = true;
-                if same_cell(&s, &r) {
-                    fault = Some((Refusal::RepeatedCell, i));
-                    break 'records;
+    'records: {
+        for (i, r) in records.iter().enumerate() {
+            if let Err(refusal) = check_alone(ceiling, counts, r) {
+                break 'records Err((refusal, i));
+            }
+            let mut known = false;
+            for s in &records[..i] {
+                if same_pair(s, r) {
+                    known = true;
+                    if same_cell(s, r) {
+                        break 'records Err((Refusal::RepeatedCell, i));
+                    }
                 }
             }
-        }
-        if !known {
-            if is_full(pairs) {
-                fault = Some((Refusal::TooManyPairs, i));
-                break 'records;
+            if !known {
+                if is_full(pairs) {
+                    break 'records Err((Refusal::TooManyPairs, i));
+                }
+                pairs += 1;
             }
-            pairs += 1;
         }
+        Ok(())
     }
-    fault
 }
 
 // The first fault of the records, with its list.
-fn records_fault(ceiling: u32, counts: &[usize], records: &[PairRecord]) -> Option<FillFault>
-    ensures is_the_first_fault { result ≡ in_list Pairs (first_fault (record_fault ceiling counts.now records.now) (length records.now)) }
+fn check_records(ceiling: u32, counts: &[usize], records: &[PairRecord]) -> Result<(), FillFault>
+    ensures is_the_first_fault { Finds
+        (in_list Pairs
+        (first_fault (record_fault ceiling counts.now records.now) (length records.now)))
+        result }
 {
-    let (refusal, place) = first_record_fault(ceiling, counts, records)?;
-    Some(FillFault {
+    check_each(ceiling, counts, records).map_err(|(refusal, place)| FillFault {
         refusal,
         list: FillList::Pairs,
         place,
@@ -194,49 +189,49 @@ fn records_fault(ceiling: u32, counts: &[usize], records: &[PairRecord]) -> Opti
 }
 
 impl Tables {
-    // Why lists do not fill these tables, if they do not.
-    pub(crate) fn fill_fault(
+    // Whether lists fill these tables, or else why not, at the first fault.
+    pub(crate) fn check_fill(
         &self,
         ceiling: u32,
         counts: &[usize],
         own: &[u32],
         records: &[PairRecord],
-    ) -> Option<FillFault>
-        ensures is_the_first_fault { result ≡ fill_fault self.now ceiling counts.now own.now records.now }
-        ensures none_exactly_where_fillable { MatchOption result (Fillable self.now ceiling counts.now own.now records.now) (λ _. Fillable self.now ceiling counts.now own.now records.now → ⊥) }
+    ) -> Result<(), FillFault>
+        ensures is_the_first_fault { Finds
+            (fill_fault self.now ceiling counts.now own.now records.now) result }
+        ensures none_exactly_where_fillable { MatchResult result
+            (λ _. Fillable self.now ceiling counts.now own.now records.now)
+            (λ _. ¬ Fillable self.now ceiling counts.now own.now records.now) }
     {
-        self.first_fault(ceiling, counts, own, records)
+        self.check_in_order(ceiling, counts, own, records)
     }
 
-    fn first_fault(
+    fn check_in_order(
         &self,
         ceiling: u32,
         counts: &[usize],
         own: &[u32],
         records: &[PairRecord],
-    ) -> Option<FillFault>
-        ensures is_the_first_fault { result ≡ fill_fault self.now ceiling counts.now own.now records.now }
+    ) -> Result<(), FillFault>
+        ensures is_the_first_fault { Finds
+            (fill_fault self.now ceiling counts.now own.now records.now) result }
     {
         if self.entries.number != 0 {
-            return Some(FillFault {
+            return Err(FillFault {
                 refusal: Refusal::AlreadyFilled,
                 list: FillList::Counts,
                 place: 0,
             });
         }
         if ceiling < 1 || ceiling > HIGHEST_CEILING {
-            return Some(FillFault {
+            return Err(FillFault {
                 refusal: Refusal::CeilingOutOfRange,
                 list: FillList::Counts,
                 place: 0,
             });
         }
-        if let Some(fault) = counts_fault(counts) {
-            return Some(fault);
-        }
-        if let Some(fault) = own_fault(ceiling, counts, own) {
-            return Some(fault);
-        }
-        records_fault(ceiling, counts, records)
+        check_counts(counts)?;
+        check_own(ceiling, counts, own)?;
+        check_records(ceiling, counts, records)
     }
 }

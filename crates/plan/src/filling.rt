@@ -98,7 +98,8 @@ impl Tables {
         records: &[PairRecord],
     ) -> Tables
         requires fit { ListsFit ceiling counts.now own.now records.now }
-        ensures are_the_filled_tables { result ≡ filled_tables ceiling counts.now own.now records.now }
+        ensures are_the_filled_tables { result
+            ≡ filled_tables ceiling counts.now own.now records.now }
     {
         let mut tables = Tables::empty(ceiling);
         tables.entries.number = counts.len();
