@@ -3,12 +3,12 @@ use Rattle.std.proofs.Common.{◌≡◌, ℕ, zero, suc, ◌<◌, ◌≤◌, Boo
 use Rattle.std.proofs.lemmas.List.{length_push}
 use Rattle.std.proofs.lemmas.List.Sums.{sum_by-le}
 use Rattle.std.proofs.lemmas.List.Elements.{All-from_get_or}
-use Rattle.std.proofs.lemmas.Bool.{cases_eq, cases_Bool, both_ways}
+use Rattle.std.proofs.lemmas.Bool.{cases_eq, cases_Bool}
 use Rattle.std.proofs.lemmas.Bool.Decides.{nat_tests}
 use Rattle.plan.specs.declared.records.PairRecord.{PairRecord}
 use Rattle.plan.specs.declared.refusals.FillFault.{FillFault}
 use Rattle.plan.specs.declared.tables.Tables.{Tables}
-use Rattle.plan.specs.Faults.{first_fault, count_fault, counts_fault, penalty_fault, own_fault, names_absent, lone_fault, record_fault, fill_fault}
+use Rattle.plan.specs.Faults.{first_fault, count_fault, counts_fault, penalty_fault, own_fault, record_fault, fill_fault}
 use Rattle.plan.specs.Fillable.{RecordsFit, Fillable}
 use Rattle.plan.specs.Records.{at, names_cell, known_pair, repeated_cell, pairs_of}
 use Rattle.plan.specs.Refusing.{Finds}
@@ -70,10 +70,8 @@ module _ (ceiling : ℕ) (counts : List ℕ) (rs : List PairRecord) where
   pairs_grow k zero h = let z : k ≡ 0 = omega arith in rw z (omega arith)
   pairs_grow k (suc n) h =
       let lp = length_push (pairs_of rs n) ((at rs n).entry, (at rs n).other) in
-      ⊎_elim
-      (λ (q : k ≡ suc n). rw q (omega arith))
-      (λ (d : k ≡ suc n → ⊥). let rec = pairs_grow k n (grind arith) in grind (arith, nat_tests))
-      (cases_eq k (suc n))
+      let rec = pairs_grow k n in
+      ⊎_elim (λ (q : k ≡ suc n). rw q (omega arith)) (λ (d : k ≡ suc n → ⊥). grind (arith, nat_tests)) (cases_eq k (suc n))
 
   pairs_few : (n : ℕ) → ((k : ℕ) → k < n → known_pair rs k ≡ false → length (pairs_of rs k) < 24) → length (pairs_of rs n) ≤ 24
   pairs_few zero h = omega arith
@@ -83,31 +81,19 @@ module _ (ceiling : ℕ) (counts : List ℕ) (rs : List PairRecord) where
       let last = h n (omega arith) in
       grind (arith, nat_tests)
 
-  -- the record k has no fault
-  record Faultless (k : ℕ) : Type 0 where
-    present : names_absent counts (at rs k) ≡ false
-    low : (at rs k).points ≤ ceiling
-    once : repeated_cell rs k ≡ false
-    room : known_pair rs k ≡ false → length (pairs_of rs k) < 24
-
-  faultless : (k : ℕ) → record_fault ceiling counts rs k ≡ None → Faultless k
-  faultless k e = record { present = grind (arith, nat_tests); low = grind (arith, nat_tests); once = grind (arith, nat_tests); room = λ n. grind (arith, nat_tests) }
-
   module _ (none : first_fault (record_fault ceiling counts rs) (length rs) ≡ None) where
-    at_each : (k : ℕ) → k < length rs → Faultless k
-    at_each k h = faultless k (none_at (record_fault ceiling counts rs) (length rs) k h none)
+    fine : (k : ℕ) → k < length rs → record_fault ceiling counts rs k ≡ None
+    fine k h = none_at (record_fault ceiling counts rs) (length rs) k h none
 
     records_fit : RecordsFit ceiling counts rs
     records_fit = record {
-      lower_first = λ k h. let f = (at_each k h).present in grind (arith, nat_tests);
-      entries_there = λ k h. let f = (at_each k h).present in grind (arith, nat_tests);
-      candidate_there = λ k h. let f = (at_each k h).present in grind (arith, nat_tests);
-      choice_there = λ k h. let f = (at_each k h).present in grind (arith, nat_tests);
-      points_low = λ k h. (at_each k h).low;
-      cells_once = λ j k l h e1 e2 e3 e4.
-          let named : names_cell (at rs j) (at rs k).entry (at rs k).candidate (at rs k).other (at rs k).choice ≡ true = grind (arith, nat_tests) in
-          both_ways (repeated_cell rs k) (at_each k h).once (repeated_by rs j k l named);
-      few_pairs = pairs_few (length rs) (λ k h. (at_each k h).room);
+      lower_first = λ k h. let f = fine k h in grind (arith, nat_tests);
+      entries_there = λ k h. let f = fine k h in grind (arith, nat_tests);
+      candidate_there = λ k h. let f = fine k h in grind (arith, nat_tests);
+      choice_there = λ k h. let f = fine k h in grind (arith, nat_tests);
+      points_low = λ k h. let f = fine k h in grind (arith, nat_tests);
+      cells_once = λ j k l h e1 e2 e3 e4. let f = fine k h in let twice = repeated_by rs j k l in grind (arith, nat_tests);
+      few_pairs = pairs_few (length rs) (λ k h new. let f = fine k h in grind (arith, nat_tests));
     }
 
   module _ (fit : RecordsFit ceiling counts rs) where
@@ -138,8 +124,6 @@ module _ (ceiling : ℕ) (counts : List ℕ) (rs : List PairRecord) where
         let c = fit.candidate_there k h in
         let d = fit.choice_there k h in
         let low = fit.points_low k h in
-        let here : names_absent counts (at rs k) ≡ false = grind (arith, nat_tests) in
-        let alone : lone_fault ceiling counts (at rs k) ≡ None = grind (arith, nat_tests) in
         let once = never_repeated k h in
         let room = room_for_pair k h in
         grind (arith, nat_tests))

@@ -1,9 +1,8 @@
 -- How the entries are written one after another, and what stands where then.
-use Rattle.std.proofs.Common.{◌≡◌, ℕ, zero, suc, ◌+◌, ◌*◌, ◌<◌, ◌≤◌, List, length, get_or, sum, refl, ap, ◌∙◌, ⊎_elim, add-one, arith}
+use Rattle.std.proofs.Common.{◌≡◌, ℕ, zero, suc, ◌+◌, ◌*◌, ◌<◌, ◌≤◌, List, length, get_or, refl, ap, ◌∙◌, add-one, arith}
 use Rattle.std.specs.List.{between}
 use Rattle.std.proofs.lemmas.List.Edits.{length-between, get_or-between}
-use Rattle.std.proofs.lemmas.List.Sums.{sum_by_more, sum_by-take-le}
-use Rattle.std.proofs.lemmas.Bool.{cases_eq}
+use Rattle.std.proofs.lemmas.Bool.Decides.{nat_tests}
 use Rattle.plan.specs.declared.tables.Entries.{Entries}
 use Rattle.plan.specs.Filling.{start, listed_own, own_rows, with_own}
 use Rattle.plan.specs.Layout.{written_from}
@@ -26,13 +25,6 @@ row_written counts own e at before x y rows begins within wrote =
     ap (λ (m : ℕ). written_from (8 * e) (λ c. get_or row c 0) m x.own) long ∙ written_same (8 * e) (λ c. get_or row c 0) (listed_own counts own e) n x.own each in
     rw add-one (wrote ∙ ap (with_own x) same ∙ ap (λ (z : Entries). with_own z (written_from (8 * e) (listed_own counts own e) n z.own)) rows)
 
--- where the own penalties of an entry end, those of the next begin
-pub start_more : (counts : List ℕ) (e : ℕ) → e < length counts → start counts (e + 1) ≡ start counts e + get_or counts e 0
-start_more counts e h = sum_by_more (λ (n : ℕ). n) counts e 0 h
-
-pub start_within : (counts : List ℕ) (e : ℕ) → e < length counts → start counts e + get_or counts e 0 ≤ sum counts
-start_within counts e h = omega (arith, start_more counts e h, sum_by-take-le (λ (n : ℕ). n) counts (e + 1))
-
 module _ (counts own : List ℕ) where
   pub length_rows : (n : ℕ) (places : List ℕ) → length (own_rows counts own n places) ≡ length places
   length_rows zero places = refl
@@ -46,15 +38,11 @@ module _ (counts own : List ℕ) where
       let rows = own_rows counts own n places in
       let low = few n (omega arith) in
       let low_e = few e he in
-      ⊎_elim
-      (λ (q : e ≡ n).
-      let within : c < get_or counts n 0 = rw q at hc in
-      rw q (written_in (8 * n) (listed_own counts own n) (get_or counts n 0) rows c 0 (omega (arith, length_rows n places)) within))
-      (λ (d : e ≡ n → ⊥).
-      let before : e < n = grind arith in
-      written_before (8 * n) (listed_own counts own n) (get_or counts n 0) rows (8 * e + c) 0 (omega arith)
-      ∙ rows_at n places e c long (omega arith) (λ i h. few i (omega arith)) before hc)
-      (cases_eq e n)
+      let long_rows = length_rows n places in
+      let here = written_in (8 * n) (listed_own counts own n) (get_or counts n 0) rows c 0 (omega arith) in
+      let before = written_before (8 * n) (listed_own counts own n) (get_or counts n 0) rows (8 * e + c) 0 in
+      let rec = rows_at n places e c long (omega arith) (λ i h. few i (omega arith)) in
+      grind (arith, nat_tests)
 
   -- no own penalty passes the ceiling
   pub rows_low : (ceiling n : ℕ) (places : List ℕ) → ((i : ℕ) → get_or own i 0 ≤ ceiling) → ((i : ℕ) → get_or places i 0 ≤ ceiling) → (i : ℕ) → get_or (own_rows counts own n places) i 0 ≤ ceiling

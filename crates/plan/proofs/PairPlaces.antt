@@ -1,11 +1,10 @@
 -- Where a pair stands among the pairs.
-use Rattle.std.proofs.Common.{◌≡◌, ℕ, zero, suc, ◌<◌, ◌≤◌, Bool, true, false, ◌&&◌, eqb, length, take, get_or, refl, ⊎_elim, arith}
+use Rattle.std.proofs.Common.{◌≡◌, ℕ, zero, suc, ◌<◌, ◌≤◌, Bool, true, false, ◌&&◌, eqb, length, take, get_or, refl, arith}
 use Rattle.std.specs.List.{position, position_or_len}
 use Rattle.std.specs.Option.{unwrap_or}
 use Rattle.std.proofs.Math.Seq.{take-suc}
 use Rattle.std.proofs.lemmas.List.{length-take-le}
 use Rattle.std.proofs.lemmas.List.Folds.{position_or_len_push}
-use Rattle.std.proofs.lemmas.Bool.{cases_eq}
 use Rattle.std.proofs.lemmas.Bool.Decides.{nat_tests}
 use Rattle.plan.specs.declared.tables.Pairs.{Pairs}
 use Rattle.plan.specs.Filling.{is_pair, place_among, pair_place}
@@ -50,7 +49,4 @@ module _ (x : Pairs) (e o : ℕ) where
   place_miss (suc k) q h l =
       let rec = place_miss k q in
       let top = place_top k in
-      ⊎_elim
-      (λ (s : q ≡ k). rw s (grind (arith, nat_tests)))
-      (λ (d : q ≡ k → ⊥). rec (grind (arith, nat_tests)) (grind arith))
-      (cases_eq q k)
+      grind (arith, nat_tests)

@@ -1,6 +1,6 @@
 -- What an earlier record passes.
-use Rattle.std.proofs.Common.{◌≡◌, ℕ, zero, suc, ◌<◌, Bool, true, false, List, refl, ⊎_elim, arith}
-use Rattle.std.proofs.lemmas.Bool.{cases_eq, cases_Bool, both_ways, or_left, or_right}
+use Rattle.std.proofs.Common.{◌≡◌, ℕ, zero, suc, ◌<◌, Bool, true, false, List, ⊎_elim, arith}
+use Rattle.std.proofs.lemmas.Bool.{false≢true, cases_Bool}
 use Rattle.std.proofs.lemmas.Bool.Decides.{nat_tests}
 use Rattle.plan.specs.declared.records.PairRecord.{PairRecord}
 use Rattle.plan.specs.Records.{at, met, names_cell, repeated_cell}
@@ -8,15 +8,11 @@ use Rattle.plan.specs.Records.{at, met, names_cell, repeated_cell}
 -- what an earlier record passes is met
 pub met_longer : (test : PairRecord → Bool) (rs : List PairRecord) (j n : ℕ) → j < n → test (at rs j) ≡ true → met test rs n ≡ true
 met_longer test rs j zero h e = absurd (omega arith)
-met_longer test rs j (suc n) h e =
-    ⊎_elim
-    (λ (q : j ≡ n). or_right _ _ (rw q at e))
-    (λ (d : j ≡ n → ⊥). or_left _ _ (met_longer test rs j n (grind arith) e))
-    (cases_eq j n)
+met_longer test rs j (suc n) h e = let rec = met_longer test rs j n in grind (arith, nat_tests)
 
 -- and what is met, an earlier record passes
 pub met_by : (test : PairRecord → Bool) (rs : List PairRecord) (n : ℕ) → met test rs n ≡ true → (j : ℕ) × (j < n) × (test (at rs j) ≡ true)
-met_by test rs zero m = absurd (both_ways false refl m)
+met_by test rs zero m = absurd (false≢true m)
 met_by test rs (suc n) m =
     ⊎_elim
     (λ (t : met test rs n ≡ true). let rec = met_by test rs n t in (rec.0, omega (arith, rec.1), rec.2))

@@ -1,7 +1,7 @@
 -- The pairs track the records that are written to them.
 use Rattle.std.proofs.Common.{◌≡◌, ℕ, zero, suc, ◌<◌, ◌≤◌, true, false, cond, ◌&&◌, eqb, List, [], ◌∷◌, ◌++◌, length, get_or, set, refl, ◌∙◌, ⊎_elim, arith}
 use Rattle.std.proofs.lemmas.List.{length-set, length_push, length-replicate}
-use Rattle.std.proofs.lemmas.Bool.{cases_eq, cases_Bool, cond-true, cond-false, eq-eqb, ne_eqb}
+use Rattle.std.proofs.lemmas.Bool.{cases_Bool, cond-true, cond-false, eq-eqb, ne_eqb}
 use Rattle.std.proofs.lemmas.Bool.Decides.{nat_tests}
 use Rattle.plan.specs.declared.records.PairRecord.{PairRecord}
 use Rattle.plan.specs.declared.tables.Pairs.{Pairs}
@@ -113,19 +113,11 @@ module _ (rs : List PairRecord) (k : ℕ) (x : Pairs) (h : Holds rs k x) where
           cells = λ q a b hq h24 ha hb.
               let put = cell_put p q a b few h24 ha hb in
               let push = get_or-push ps (r.entry, r.other) (0, 0) q in
-              ⊎_elim
-              (λ (s : q ≡ p).
-              let last : get_or (ps ++ (r.entry, r.other) ∷ []) q (0, 0) ≡ (r.entry, r.other) = grind (arith, nat_tests) in
-              let was = h.zeros q a b (omega arith) h24 ha hb in
+              let was = h.cells q a b in
+              let zero = h.zeros q a b in
               let none = pairless rs k r.entry a r.other b m in
-              rw last (grind (arith, nat_tests)))
-              (λ (d : q ≡ p → ⊥).
-              let low : q < p = grind arith in
-              let earlier : get_or (ps ++ (r.entry, r.other) ∷ []) q (0, 0) ≡ get_or ps q (0, 0) = grind (arith, nat_tests) in
-              let was = h.cells q a b low h24 ha hb in
-              let none = unmet rs k r.entry r.other q m in
-              rw earlier (grind (arith, nat_tests)))
-              (cases_eq q p);
+              let other = unmet rs k r.entry r.other q m in
+              grind (arith, nat_tests);
           zeros = λ q a b hq h24 ha hb.
               let put = cell_put p q a b few h24 ha hb in
               let was = h.zeros q a b (omega arith) h24 ha hb in
@@ -156,10 +148,9 @@ module _ (rs : List PairRecord) (k : ℕ) (x : Pairs) (h : Holds rs k x) where
     pub place_low : (known_pair rs k ≡ false → length (pairs_of rs k) < 24) → length (pairs_of rs k) ≤ 24 → pair_place x r.entry r.other < 24
     place_low room few =
         let many = h.many in
-        ⊎_elim
-        (λ (m : known_pair rs k ≡ true). let low = place_known r.entry r.other m in omega arith)
-        (λ (m : known_pair rs k ≡ false). let new = place_new r.entry r.other m in let less = room m in omega arith)
-        (cases_Bool (known_pair rs k))
+        let known = place_known r.entry r.other in
+        let new = place_new r.entry r.other in
+        grind (arith, nat_tests)
 
 holds_none : (rs : List PairRecord) → Holds rs 0 new_tables.pairs
 holds_none rs = record {
