@@ -1,13 +1,12 @@
 -- Where a pair stands among the pairs.
-use Rattle.std.proofs.Common.{◌≡◌, ℕ, zero, suc, ◌<◌, ◌≤◌, Bool, true, false, ◌&&◌, eqb, length, take, get_or, refl, arith}
+use Rattle.std.proofs.Common.{◌≡◌, ℕ, zero, suc, ◌<◌, ◌≤◌, Bool, true, false, ◌&&◌, eqb, Some, None, length, take, get_or, refl, arith}
 use Rattle.std.specs.List.{position, position_or_len}
-use Rattle.std.specs.Option.{unwrap_or}
 use Rattle.std.proofs.Math.Seq.{take-suc}
 use Rattle.std.proofs.lemmas.List.{length-take-le}
 use Rattle.std.proofs.lemmas.List.Folds.{position_or_len_push}
 use Rattle.std.proofs.lemmas.Bool.Decides.{nat_tests}
 use Rattle.plan.specs.declared.tables.Pairs.{Pairs}
-use Rattle.plan.specs.Filling.{is_pair, place_among, pair_place}
+use Rattle.plan.specs.Filling.{is_pair, place_among, pair_place, with_pair, with_room_for}
 
 module _ (x : Pairs) (e o : ℕ) where
   -- the ends of a pair are the entries e and o
@@ -28,12 +27,21 @@ module _ (x : Pairs) (e o : ℕ) where
       let push = position_or_len_push is_ends (take k x.ends) (get_or x.ends k (0, 0)) in
       rw (take-suc x.ends k (0, 0) h) (grind (arith, nat_tests))
 
-  pub place_found : x.number ≤ length x.ends → unwrap_or (position is_ends (take x.number x.ends)) x.number ≡ pair_place x e o
-  place_found h =
-      let same = first_place x.number h in
-      let top = place_top x.number in
-      let long = length-take-le x.number x.ends h in
-      grind (arith, nat_tests)
+  module _ (long : x.number ≤ length x.ends) where
+    -- what a search for the pair finds is its place
+    pub found_there : (p : ℕ) → Some p ≡ position is_ends (take x.number x.ends) → (p ≡ pair_place x e o) × (x ≡ with_room_for x e o)
+    found_there p found =
+        let same = first_place x.number long in
+        let all = length-take-le x.number x.ends long in
+        (grind (arith, nat_tests), grind (arith, nat_tests))
+
+    -- and where it finds none, the pair takes the next number
+    pub found_none : None ≡ position is_ends (take x.number x.ends) → (x.number ≡ pair_place x e o) × (with_pair x e o ≡ with_room_for x e o)
+    found_none none =
+        let same = first_place x.number long in
+        let top = place_top x.number in
+        let all = length-take-le x.number x.ends long in
+        (grind (arith, nat_tests), grind (arith, nat_tests))
 
   -- where a place is below, the pair is there
   pub place_hit : (k : ℕ) → place_among x e o k < k → is_pair x e o (place_among x e o k) ≡ true

@@ -1,7 +1,7 @@
 // Tables made from lists.
 ghost use Rattle.std.specs.Prelude.{◌≡◌, ℕ, ◌+◌, ◌*◌, ◌<◌, ◌≤◌, ◌&&◌, length, position, sum, take, ◌==◌, slice_index};
 ghost use Rattle.plan.specs.Fillable.{ListsFit};
-ghost use Rattle.plan.specs.Filling.{own_rows, with_counts, with_own, pair_place, with_record, with_records, Writable, filled_tables};
+ghost use Rattle.plan.specs.Filling.{own_rows, with_counts, with_own, pair_place, with_room_for, with_record, with_records, Writable, filled_tables};
 ghost use Rattle.plan.specs.Layout.{written_from};
 
 use crate::records::PairRecord;
@@ -55,12 +55,20 @@ impl Pairs {
             .position(|ends| *ends == (entry, other))
     }
 
-    // Its number, or the next number where it is new.
-    fn place(&self, entry: usize, other: usize) -> usize
-        requires few { self.now.number ≤ 24 }
-        ensures is_its_place { result ≡ pair_place self.now entry other }
+    // Its number; where it is new, it takes the next.
+    fn room_for(&mut self, entry: usize, other: usize) -> usize
+        requires few { self.old.number ≤ 24 }
+        requires place_low { pair_place self.old entry other < 24 }
+        ensures is_its_place { result ≡ pair_place self.old entry other }
+        ensures makes_room { self.new ≡ with_room_for self.old entry other }
     {
-        self.find(entry, other).unwrap_or(self.number)
+        if let Some(place) = self.find(entry, other) {
+            return place;
+        }
+        let place = self.number;
+        self.ends[place] = (entry, other);
+        self.number += 1;
+        place
     }
 
     fn write(&mut self, r: &PairRecord)
@@ -70,11 +78,7 @@ impl Pairs {
         requires choice_low { r.now.choice < 8 }
         ensures writes_it { self.new ≡ with_record self.old r.now }
     {
-        let p = self.place(r.entry, r.other);
-        if p == self.number {
-            self.ends[p] = (r.entry, r.other);
-            self.number += 1;
-        }
+        let p = self.room_for(r.entry, r.other);
         self.cells[64 * p + 8 * r.candidate + r.choice] = r.points;
     }
 
