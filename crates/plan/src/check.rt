@@ -30,26 +30,14 @@ fn check_counts(counts: &[usize]) -> Result<(), FillFault>
     ensures is_the_first_fault { Finds (counts_fault counts.now) result }
 {
     if counts.is_empty() {
-        return Err(FillFault {
-            refusal: Refusal::CountOutOfRange,
-            list: FillList::Counts,
-            place: 0,
-        });
+        return Err(FillFault::at(Refusal::CountOutOfRange, FillList::Counts, 0));
     }
     if too_many(counts.len()) {
-        return Err(FillFault {
-            refusal: Refusal::CountOutOfRange,
-            list: FillList::Counts,
-            place: MOST_ENTRIES,
-        });
+        return Err(FillFault::at(Refusal::CountOutOfRange, FillList::Counts, MOST_ENTRIES));
     }
     for (place, &count) in counts.iter().enumerate() {
         if !is_count(count) {
-            return Err(FillFault {
-                refusal: Refusal::CountOutOfRange,
-                list: FillList::Counts,
-                place,
-            });
+            return Err(FillFault::at(Refusal::CountOutOfRange, FillList::Counts, place));
         }
     }
     Ok(())
@@ -77,19 +65,11 @@ fn check_own(ceiling: u32, counts: &[usize], own: &[u32]) -> Result<(), FillFaul
 {
     let total = total(counts);
     if own.len() != total {
-        return Err(FillFault {
-            refusal: Refusal::OwnLength,
-            list: FillList::Own,
-            place: total,
-        });
+        return Err(FillFault::at(Refusal::OwnLength, FillList::Own, total));
     }
     for (place, &points) in own.iter().enumerate() {
         if is_above(ceiling, points) {
-            return Err(FillFault {
-                refusal: Refusal::PointsAboveCeiling,
-                list: FillList::Own,
-                place,
-            });
+            return Err(FillFault::at(Refusal::PointsAboveCeiling, FillList::Own, place));
         }
     }
     Ok(())
@@ -181,11 +161,11 @@ fn check_records(ceiling: u32, counts: &[usize], records: &[PairRecord]) -> Resu
         (first_fault (record_fault ceiling counts.now records.now) (length records.now)))
         result }
 {
-    check_each(ceiling, counts, records).map_err(|(refusal, place)| FillFault {
+    check_each(ceiling, counts, records).map_err(|(refusal, place)| FillFault::at(
         refusal,
-        list: FillList::Pairs,
+        FillList::Pairs,
         place,
-    })
+    ))
 }
 
 impl Tables {
@@ -217,18 +197,10 @@ impl Tables {
             (fill_fault self.now ceiling counts.now own.now records.now) result }
     {
         if self.entries.number != 0 {
-            return Err(FillFault {
-                refusal: Refusal::AlreadyFilled,
-                list: FillList::Counts,
-                place: 0,
-            });
+            return Err(FillFault::at(Refusal::AlreadyFilled, FillList::Counts, 0));
         }
         if ceiling < 1 || ceiling > HIGHEST_CEILING {
-            return Err(FillFault {
-                refusal: Refusal::CeilingOutOfRange,
-                list: FillList::Counts,
-                place: 0,
-            });
+            return Err(FillFault::at(Refusal::CeilingOutOfRange, FillList::Counts, 0));
         }
         check_counts(counts)?;
         check_own(ceiling, counts, own)?;
