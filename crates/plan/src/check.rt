@@ -120,52 +120,37 @@ fn same_cell(s: &PairRecord, r: &PairRecord) -> bool
 
 // Each record is held against those before it. A rule of the project: a repeated cell or a pair too
 // many is sought by nested loops, which are left at the first fault by their label.
-fn check_each(
-    ceiling: u32,
-    counts: &[usize],
-    records: &[PairRecord],
-) -> Result<(), (Refusal, usize)>
-    ensures is_the_first_fault { Finds
-        (first_fault (record_fault ceiling counts.now records.now) (length records.now)) result }
-{
-    let mut pairs: usize = 0;
-    'records: {
-        for (i, r) in records.iter().enumerate() {
-            if let Err(refusal) = check_alone(ceiling, counts, r) {
-                break 'records Err((refusal, i));
-            }
-            let mut known = false;
-            for s in &records[..i] {
-                if same_pair(s, r) {
-                    known = true;
-                    if same_cell(s, r) {
-                        break 'records Err((Refusal::RepeatedCell, i));
-                    }
-                }
-            }
-            if !known {
-                if is_full(pairs) {
-                    break 'records Err((Refusal::TooManyPairs, i));
-                }
-                pairs += 1;
-            }
-        }
-        Ok(())
-    }
-}
-
-// The first fault of the records, with its list.
 fn check_records(ceiling: u32, counts: &[usize], records: &[PairRecord]) -> Result<(), FillFault>
     ensures is_the_first_fault { Finds
         (in_list Pairs
         (first_fault (record_fault ceiling counts.now records.now) (length records.now)))
         result }
 {
-    check_each(ceiling, counts, records).map_err(|(refusal, place)| FillFault::at(
-        refusal,
-        FillList::Pairs,
-        place,
-    ))
+    let mut pairs: usize = 0;
+    'records: {
+        for (i, r) in records.iter().enumerate() {
+            let fault = move |refusal| FillFault::at(refusal, FillList::Pairs, i);
+            if let Err(refusal) = check_alone(ceiling, counts, r) {
+                break 'records Err(fault(refusal));
+            }
+            let mut known = false;
+            for s in &records[..i] {
+                if same_pair(s, r) {
+                    known = true;
+                    if same_cell(s, r) {
+                        break 'records Err(fault(Refusal::RepeatedCell));
+                    }
+                }
+            }
+            if !known {
+                if is_full(pairs) {
+                    break 'records Err(fault(Refusal::TooManyPairs));
+                }
+                pairs += 1;
+            }
+        }
+        Ok(())
+    }
 }
 
 impl Tables {
@@ -186,6 +171,7 @@ impl Tables {
         self.check_in_order(ceiling, counts, own, records)
     }
 
+    // The checks, in their order.
     fn check_in_order(
         &self,
         ceiling: u32,

@@ -6,15 +6,16 @@ use Rattle.plan.specs.declared.refusals.Refusal.TheVariants.{RepeatedCell, TooMa
 use Rattle.plan.specs.Faults.{record_fault}
 use Rattle.plan.proofs.Firsts.{first_here}
 use Rattle.plan.proofs.RecordFaults.{repeated_by}
-use Rattle.plan.proofs.check.check_each.Goals as goal
-use Rattle.plan.proofs.check.check_each.Goals.{then-same_pair+else-same_cell, else-same_pair}
+use Rattle.plan.proofs.check.check_records.Goals as goal
+use Rattle.plan.proofs.check.check_records.Goals.{then-same_pair+else-same_cell, else-same_pair}
 
 pub returns-in-Err : goal.returns-in-Err
 returns-in-Err c =
     let rs = c.args.records.now in
     let test = record_fault c.args.ceiling c.args.counts.now rs in
     let here : test c.loop-i.i ≡ Some c.in-Err.refusal = grind (arith, nat_tests) in
-    record { is_the_first_fault = first_here test (length rs) c.loop-i.i c.in-Err.refusal c.loop-i-test.true c.loop-i.invariant.none here }
+    let first = first_here test (length rs) c.loop-i.i c.in-Err.refusal c.loop-i-test.true c.loop-i.invariant.none here in
+    record { is_the_first_fault = grind (arith, nat_tests) }
 
 pub returns-then-same_cell : goal.returns-then-same_cell
 returns-then-same_cell c =
@@ -25,7 +26,8 @@ returns-then-same_cell c =
     let same = rw get_or-take at c.if-same_cell.ensures.is_so in
     let twice = repeated_by rs c.loop-s.s-index i low (sym same) in
     let here : test c.loop-i.i ≡ Some RepeatedCell = grind (arith, nat_tests) in
-    record { is_the_first_fault = first_here test (length rs) c.loop-i.i RepeatedCell c.loop-i-test.true c.loop-i.invariant.none here }
+    let first = first_here test (length rs) c.loop-i.i RepeatedCell c.loop-i-test.true c.loop-i.invariant.none here in
+    record { is_the_first_fault = grind (arith, nat_tests) }
 
 pub returns-then-is_full : goal.returns-then-is_full
 returns-then-is_full c =
@@ -33,7 +35,8 @@ returns-then-is_full c =
     let test = record_fault c.args.ceiling c.args.counts.now rs in
     let at_end : c.loop-s.s-index ≡ c.loop-i.i = omega (arith, length-take-le c.loop-i.i rs) in
     let here : test c.loop-i.i ≡ Some TooManyPairs = grind (arith, nat_tests) in
-    record { is_the_first_fault = first_here test (length rs) c.loop-i.i TooManyPairs c.loop-i-test.true c.loop-i.invariant.none here }
+    let first = first_here test (length rs) c.loop-i.i TooManyPairs c.loop-i-test.true c.loop-i.invariant.none here in
+    record { is_the_first_fault = grind (arith, nat_tests) }
 
 pub loop-s-preserved : goal.loop-s-preserved
 loop-s-preserved c = let low : c.loop-s.s-index < c.loop-i.i = omega (arith, length-take-le c.loop-i.i c.args.records.now) in elim c.if-same_pair.branch [

@@ -1,7 +1,7 @@
 use Rattle.std.proofs.Common.{◌≡◌, false, length, None}
 use Rattle.plan.specs.Faults.{first_fault, record_fault}
 use Rattle.plan.specs.Records.{pair_met, cell_met, pairs_of}
-use Rattle.plan.proofs.check.check_each.Given as goal
+use Rattle.plan.proofs.check.check_records.Given as goal
 
 -- whether an earlier record is of the pair of r is known, and none names its cell
 abbrev pub invariant-loop-s : goal.invariant-loop-s
