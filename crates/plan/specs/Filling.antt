@@ -1,5 +1,6 @@
 -- What lists make of a plan's tables, and what filling answers and leaves.
 use Rattle.std.specs.Prelude.{ℕ, zero, suc, ◌+◌, ◌*◌, ◌<◌, ◌≤◌, Bool, cond, ◌&&◌, List, length, take, None, sum, Result, ◌==◌, nat_lt, slice_index, slice_index_or, slice_set}
+use Rattle.plan.specs.declared.lists.Lists.{Lists}
 use Rattle.plan.specs.declared.records.PairRecord.{PairRecord}
 use Rattle.plan.specs.declared.refusals.FillFault.{FillFault}
 use Rattle.plan.specs.declared.tables.Entries.{Entries}
@@ -88,6 +89,10 @@ filled_tables ceiling counts own rs = record {
   limits = record { floor = 0; ceiling = ceiling; bound = ceiling };
   hand = None;
 }
+
+-- the same of the lists together
+abbrev pub tables_of : Lists → Tables
+tables_of lists = filled_tables lists.ceiling lists.counts.now lists.own.now lists.records.now
 
 -- what is answered, and what is left
 abbrev pub fill_answer : Tables → ℕ → List ℕ → List ℕ → List PairRecord → Result (Unit {0}) FillFault

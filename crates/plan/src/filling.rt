@@ -1,9 +1,10 @@
 // Tables made from lists.
 ghost use Rattle.std.specs.Prelude.{◌≡◌, ℕ, ◌+◌, ◌*◌, ◌<◌, ◌≤◌, ◌&&◌, length, position, sum, take, ◌==◌, slice_index};
 ghost use Rattle.plan.specs.Fillable.{ListsFit};
-ghost use Rattle.plan.specs.Filling.{own_rows, with_counts, with_own, pair_place, with_room_for, with_record, with_records, Writable, filled_tables};
+ghost use Rattle.plan.specs.Filling.{own_rows, with_counts, with_own, pair_place, with_room_for, with_record, with_records, Writable, tables_of};
 ghost use Rattle.plan.specs.Layout.{written_from};
 
+use crate::lists::Lists;
 use crate::records::PairRecord;
 use crate::tables::{Entries, Pairs, Tables};
 
@@ -93,23 +94,18 @@ impl Pairs {
     }
 }
 
-impl Tables {
-    // The tables that lists make.
-    pub(crate) fn filled(
-        ceiling: u32,
-        counts: &[usize],
-        own: &[u32],
-        records: &[PairRecord],
-    ) -> Tables
-        requires fit { ListsFit ceiling counts.now own.now records.now }
-        ensures are_the_filled_tables { result
-            ≡ filled_tables ceiling counts.now own.now records.now }
+impl Lists<'_> {
+    // The tables that they make.
+    pub(crate) fn tables(&self) -> Tables
+        requires fit { ListsFit self.now.ceiling self.now.counts.now self.now.own.now
+            self.now.records.now }
+        ensures are_the_filled_tables { result ≡ tables_of self.now }
     {
-        let mut tables = Tables::empty(ceiling);
-        tables.entries.number = counts.len();
-        tables.entries.write_counts(counts);
-        tables.entries.write_own(counts, own);
-        tables.pairs.write_all(records);
+        let mut tables = Tables::empty(self.ceiling);
+        tables.entries.number = self.counts.len();
+        tables.entries.write_counts(self.counts);
+        tables.entries.write_own(self.counts, self.own);
+        tables.pairs.write_all(self.records);
         tables
     }
 }

@@ -10,16 +10,16 @@ use Rattle.plan.proofs.Plan.filled.Goals as goal
 
 pub returns : goal.returns
 returns g c =
-    let ceiling = c.args.ceiling in
-    let counts = c.args.counts.now in
-    let own = c.args.own.now in
-    let rs = c.args.pairs.now in
+    let ceiling = c.args.lists.now.ceiling in
+    let counts = c.args.lists.now.counts.now in
+    let own = c.args.lists.now.own.now in
+    let rs = c.args.lists.now.records.now in
     let scale = c.args.self.now.scale in
     let join = g.S.Scale.join scale ceiling in
     let rest = g.S.Scale.rest scale ceiling in
     let fit = c.requires.fillable.lists_fit in
     let law = lawful_at ceiling join rest fit.ceiling_high (g.met.S.Scale.lawful scale ceiling) in
-    let is = c.filled.ensures.are_the_filled_tables in
+    let is = c.tables.ensures.are_the_filled_tables in
     let filled = filled_tables ceiling counts own rs in
     let sound = filled_sound ceiling counts own rs fit in
     let listed = open_as_listed ceiling counts own rs fit in
