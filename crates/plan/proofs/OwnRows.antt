@@ -1,28 +1,22 @@
 -- How the entries are written one after another, and what stands where then.
-use Rattle.std.proofs.Common.{◌≡◌, ℕ, zero, suc, ◌+◌, ◌*◌, ◌<◌, ◌≤◌, List, length, get_or, refl, ap, ◌∙◌, add-one, arith}
-use Rattle.std.specs.List.{between}
-use Rattle.std.proofs.lemmas.List.Edits.{length-between, get_or-between}
+use Rattle.std.proofs.Common.{◌≡◌, ℕ, zero, suc, ◌+◌, ◌*◌, ◌<◌, ◌≤◌, List, length, get_or, take, drop, refl, ap, ◌∙◌, add-one, arith}
+use Rattle.std.proofs.lemmas.List.{get_or-take, get_or-drop}
 use Rattle.std.proofs.lemmas.Bool.Decides.{nat_tests}
 use Rattle.plan.specs.declared.tables.Entries.{Entries}
 use Rattle.plan.specs.Filling.{start, listed_own, own_rows, with_own}
 use Rattle.plan.specs.Layout.{written_from}
 use Rattle.plan.proofs.Writes.{length_written, written_same, written_in, written_before, written_low}
 
--- the own penalties of the entry e, which begin at a place of their list
-abbrev pub row_of : List ℕ → List ℕ → ℕ → ℕ → List ℕ
-row_of counts own at e = between at (at + get_or counts e 0) own
-
 -- one row more
-pub row_written : (counts own : List ℕ) (e at : ℕ) (before x y : Entries) → x ≡ with_own before (own_rows counts own e before.own) → at ≡ start counts e →
-    at + get_or counts e 0 ≤ length own → y ≡ with_own x (written_from (8 * e) (λ c. get_or (row_of counts own at e) c 0) (length (row_of counts own at e)) x.own) →
-    y ≡ with_own before (own_rows counts own (e + 1) before.own)
-row_written counts own e at before x y rows begins within wrote =
+pub row_written : (counts own row : List ℕ) (e : ℕ) (before x y : Entries) → x ≡ with_own before (own_rows counts own e before.own) →
+    row ≡ take (get_or counts e 0) (drop (start counts e) own) → length row ≡ get_or counts e 0 →
+    y ≡ with_own x (written_from (8 * e) (λ c. get_or row c 0) (length row) x.own) → y ≡ with_own before (own_rows counts own (e + 1) before.own)
+row_written counts own row e before x y rows is long wrote =
     let n = get_or counts e 0 in
-    let row = row_of counts own at e in
-    let long : length row ≡ n = omega (arith, length-between own at (at + n) within) in
-    let each = λ (c : ℕ) (h : c < n). get_or-between own at (at + n) c 0 (omega arith) ∙ ap (λ (s : ℕ). get_or own (s + c) 0) begins in
-    let same : written_from (8 * e) (λ c. get_or row c 0) (length row) x.own ≡ written_from (8 * e) (listed_own counts own e) n x.own =
-    ap (λ (m : ℕ). written_from (8 * e) (λ c. get_or row c 0) m x.own) long ∙ written_same (8 * e) (λ c. get_or row c 0) (listed_own counts own e) n x.own each in
+    let f = λ (c : ℕ). get_or row c 0 in
+    let each = λ (c : ℕ) (h : c < n). ap (λ (r : List ℕ). get_or r c 0) is ∙ get_or-take n (drop (start counts e) own) c 0 h ∙ get_or-drop (start counts e) own c 0 in
+    let same : written_from (8 * e) f (length row) x.own ≡ written_from (8 * e) (listed_own counts own e) n x.own =
+    ap (λ (m : ℕ). written_from (8 * e) f m x.own) long ∙ written_same (8 * e) f (listed_own counts own e) n x.own each in
     rw add-one (wrote ∙ ap (with_own x) same ∙ ap (λ (z : Entries). with_own z (written_from (8 * e) (listed_own counts own e) n z.own)) rows)
 
 module _ (counts own : List ℕ) where

@@ -36,10 +36,11 @@ impl Entries {
         ensures writes_them { self.new ≡ with_own self.old
             (own_rows counts.now own.now (length counts.now) self.old.own) }
     {
-        let mut start: usize = 0;
+        let mut rest = own;
         for (e, &count) in counts.iter().enumerate() {
-            self.write_row(e, &own[start..start + count]);
-            start += count;
+            let (row, later) = rest.split_at(count);
+            self.write_row(e, row);
+            rest = later;
         }
     }
 }
