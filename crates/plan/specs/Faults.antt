@@ -80,6 +80,6 @@ fill_fault x ceiling counts own rs =
     (fault_at Counts CeilingOutOfRange 0))
     (fault_at Counts AlreadyFilled 0)
 
--- the same of the lists together
+-- why lists do not fill the tables x, if they do not
 abbrev pub fault_of : Tables → Lists → Option FillFault
 fault_of x lists = fill_fault x lists.ceiling lists.counts.now lists.own.now lists.records.now

@@ -40,7 +40,7 @@ pub record Fillable (x : Tables) (ceiling : ℕ) (counts own : List ℕ) (rs : L
   pub still_empty : x.entries.number ≡ 0
   pub lists_fit : ListsFit ceiling counts own rs
 
--- the same of the lists together
+-- lists fill the tables x
 abbrev pub FillableBy : Tables → Lists → Type 0
 FillableBy x lists = Fillable x lists.ceiling lists.counts.now lists.own.now lists.records.now
 

@@ -90,7 +90,7 @@ filled_tables ceiling counts own rs = record {
   hand = None;
 }
 
--- the same of the lists together
+-- the tables of lists
 abbrev pub tables_of : Lists → Tables
 tables_of lists = filled_tables lists.ceiling lists.counts.now lists.own.now lists.records.now
 

@@ -48,12 +48,12 @@ impl Entries {
 impl Pairs {
     // The number of the pair of two entries, if it is there.
     fn find(&self, entry: usize, other: usize) -> Option<usize>
-        requires few { self.now.number ≤ 24 }
         ensures is_the_first { result ≡ position (λ ends. ends.0 == entry && ends.1 == other)
             (take self.now.number self.now.ends) }
     {
-        self.ends[..self.number]
+        self.ends
             .iter()
+            .take(self.number)
             .position(|ends| *ends == (entry, other))
     }
 
@@ -73,6 +73,7 @@ impl Pairs {
         place
     }
 
+    // The points of a record, in the cell that it names.
     fn write(&mut self, r: &PairRecord)
         requires few { self.old.number ≤ 24 }
         requires place_low { pair_place self.old r.now.entry r.now.other < 24 }

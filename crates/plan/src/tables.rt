@@ -1,4 +1,5 @@
-// The plain tables of a plan: 8 places for each of 16 entries, and 64 for each of 24 pairs.
+// The plain tables of a plan: 8 places for each of 16 entries, and 64 for each of 24 pairs. A rule of
+// the project: a plan allocates nothing and holds plain arrays, with their numbers beside them.
 
 // The most entries, candidates of an entry, and pairs.
 pub const MOST_ENTRIES: usize = 16;
