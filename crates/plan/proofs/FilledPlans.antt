@@ -1,8 +1,8 @@
 -- Tables that lists have filled are sound, and each tuning costs its filled cost.
-use Rattle.std.proofs.Common.{◌≡◌, ℕ, zero, suc, ◌+◌, ◌<◌, ◌≤◌, true, false, List, ◌∷◌, ◌++◌, map, length, get_or, filter, sym, refl, ap, ◌∙◌, ⊎_elim, zero-add, arith}
+use Rattle.std.proofs.Common.{◌≡◌, ℕ, zero, suc, ◌+◌, ◌<◌, ◌≤◌, true, false, List, ◌∷◌, ◌++◌, map, length, get_or, filter, sym, refl, ap, subst, ◌∙◌, ⊎_elim, zero-add, arith}
 use Rattle.std.specs.List.{range_with_len}
-use Rattle.std.proofs.lemmas.List.{get_or_past}
-use Rattle.std.proofs.lemmas.Bool.{cases_Bool, cases_lt, cond_both, and_from, lt-ltb}
+use Rattle.std.proofs.lemmas.List.{get_or_past, get_or-replicate}
+use Rattle.std.proofs.lemmas.Bool.{cases_Bool, cond_both}
 use Rattle.std.proofs.lemmas.Bool.Decides.{nat_tests}
 use Rattle.scale.specs.Joins.{joined, joined_over}
 use Rattle.scale.specs.Laws.{Lawful}
@@ -18,13 +18,13 @@ use Rattle.plan.specs.Fresh.{new_tables}
 use Rattle.plan.specs.Invariant.{Sound}
 use Rattle.plan.specs.Layout.{candidate_place, cell_place, count_of}
 use Rattle.plan.specs.Records.{at, of_pair, pair_met, pairs_of}
-use Rattle.plan.proofs.NewPlans.{zeros, trues}
+use Rattle.plan.proofs.NewPlans.{zeros}
 use Rattle.plan.proofs.OpenTunings.{tuning_from_open}
 use Rattle.plan.proofs.OwnRows.{length_rows, rows_at, rows_low}
 use Rattle.plan.proofs.PairLists.{first_in, second_in, unmet}
 use Rattle.plan.proofs.RecordCosts.{chosen, pairs_as_records}
 use Rattle.plan.proofs.RecordFaults.{met_by}
-use Rattle.plan.proofs.Tracking.{Holds, held}
+use Rattle.plan.proofs.Tracking.{cell_in, Holds, held}
 use Rattle.plan.proofs.Writes.{written_in, written_low, set_low}
 
 -- a listed pair is the pair of a record
@@ -80,7 +80,7 @@ module _ (c : ℕ) (counts own : List ℕ) (rs : List PairRecord) (fit : ListsFi
       (omega arith, omega arith)
 
   own_low : (i : ℕ) → get_or own i 0 ≤ c
-  own_low i = ⊎_elim (λ (l : i < length own). fit.own_low i l) (λ (l : length own ≤ i). omega (arith, get_or_past own i 0 l)) (cases_lt i (length own))
+  own_low i = let past = get_or_past own i 0 in let low = fit.own_low i in grind arith
 
   pub filled_sound : Sound x
   filled_sound = (
@@ -93,8 +93,8 @@ module _ (c : ℕ) (counts own : List ℕ) (rs : List PairRecord) (fit : ListsFi
     ),
     (
       omega (arith, holds.many, fit.records_fit.few_pairs),
-      (λ p h. omega (arith, ends p h, holds.firsts p h, holds.seconds p h)),
-      (λ p h. omega (arith, ends p h, holds.seconds p h)),
+      (λ p h. subst (λ (pair : ℕ × ℕ). pair.0 < pair.1) (sym (holds.ends p h)) (ends p h).0),
+      (λ p h. subst (λ (pair : ℕ × ℕ). pair.1 < length counts) (sym (holds.ends p h)) (ends p h).1),
       holds.long_cells,
     ),
     (fit.ceiling_low, omega arith, fit.ceiling_high),
@@ -110,10 +110,11 @@ module _ (c : ℕ) (counts own : List ℕ) (rs : List PairRecord) (fit : ListsFi
       for_each = l.for_each;
       opens = λ e h.
           let c = get_or t e 0 in
-          let low : c < count_of x e = omega (arith, l.there e h, count_is e h) in
+          let there = l.there e h in
+          let count = count_is e h in
           let few = fit.each_few e h in
-          let marked = trues 128 (candidate_place e c) (omega (arith, l.there e h, fit.few_counts)) in
-          and_from _ _ (and_from _ _ (lt-ltb e (length counts) h) (lt-ltb c (count_of x e) low)) marked;
+          let marked = get_or-replicate 128 (candidate_place e c) true false (omega (arith, fit.few_counts)) in
+          grind (arith, nat_tests);
     }),
   )
 
@@ -130,7 +131,8 @@ module _ (c : ℕ) (counts own : List ℕ) (rs : List PairRecord) (fit : ListsFi
         let b = tuning.there s (omega arith) in
         let fa = fit.each_few f (omega arith) in
         let fb = fit.each_few s (omega arith) in
-        rw (holds.firsts q l, holds.seconds q l) (holds.cells q (get_or t f 0) (get_or t s 0) l (omega (arith, holds.many, fit.records_fit.few_pairs)) (omega arith) (omega arith))
+        ap (λ (pair : ℕ × ℕ). cell_in x.pairs q (get_or t pair.0 0) (get_or t pair.1 0)) (holds.ends q l)
+        ∙ holds.cells q (get_or t f 0) (get_or t s 0) l (omega (arith, holds.many, fit.records_fit.few_pairs)) (omega arith) (omega arith)
 
     pub costs_filled : cost join x t ≡ filled_cost join counts own rs t
     costs_filled =

@@ -1,38 +1,19 @@
 -- The first fault among places.
-use Rattle.std.proofs.Common.{◌≡◌, ℕ, zero, suc, ◌+◌, ◌<◌, ◌≤◌, Some, None, Option, refl, ap, ⊎_elim, add-one, arith}
-use Rattle.std.proofs.lemmas.Bool.{cases_eq}
+use Rattle.std.proofs.Common.{◌≡◌, ℕ, zero, suc, ◌<◌, Some, None, Option, refl, arith}
+use Rattle.std.proofs.lemmas.Bool.Decides.{nat_tests}
 use Rattle.plan.specs.declared.refusals.Refusal.{Refusal}
-use Rattle.plan.specs.Faults.{or_here, first_fault}
-
-both_none : (k : ℕ) (found : Option (Refusal × ℕ)) (here : Option Refusal) → or_here k found here ≡ None → (found ≡ None) × (here ≡ None)
-both_none k (Some x) here e = let z : ◌≡◌ {A = ℕ} 0 1 = cc in absurd (omega arith)
-both_none k None (Some why) e = let z : ◌≡◌ {A = ℕ} 0 1 = cc in absurd (omega arith)
-both_none k None None e = (refl, refl)
+use Rattle.plan.specs.Faults.{first_fault}
 
 module _ (test : ℕ → Option Refusal) where
-  -- the first stays the first
-  stays : (m n : ℕ) (x : Refusal × ℕ) → m ≤ n → first_fault test m ≡ Some x → first_fault test n ≡ Some x
-  stays m zero x h e = let z : m ≡ 0 = omega arith in rw z at e
-  stays m (suc n) x h e =
-      ⊎_elim
-      (λ (q : m ≡ suc n). rw q at e)
-      (λ (d : m ≡ suc n → ⊥). ap (λ found. or_here n found (test n)) (stays m n x (grind arith) e))
-      (cases_eq m (suc n))
-
   -- where none is before, the fault of k is the first
   pub first_here : (n k : ℕ) (why : Refusal) → k < n → first_fault test k ≡ None → test k ≡ Some why → first_fault test n ≡ Some (why, k)
-  first_here n k why h none e = stays (suc k) n (why, k) h (rw (none, e))
-
-  -- one place more without a fault
-  pub none_more : (k : ℕ) → first_fault test k ≡ None → test k ≡ None → first_fault test (k + 1) ≡ None
-  none_more k none e = rw (add-one, none, e)
+  first_here zero k why h none here = absurd (omega arith)
+  first_here (suc n) k why h none here = let rec = first_here n k why in grind (arith, nat_tests)
 
   -- there is no first fault exactly where no place has one
   pub none_at : (n k : ℕ) → k < n → first_fault test n ≡ None → test k ≡ None
   none_at zero k h e = absurd (omega arith)
-  none_at (suc n) k h e =
-      let both = both_none n (first_fault test n) (test n) e in
-      ⊎_elim (λ (q : k ≡ n). rw q both.1) (λ (d : k ≡ n → ⊥). none_at n k (grind arith) both.0) (cases_eq k n)
+  none_at (suc n) k h e = let rec = none_at n k in grind (arith, nat_tests)
 
   pub none_below : (n : ℕ) → ((k : ℕ) → k < n → test k ≡ None) → first_fault test n ≡ None
   none_below zero h = refl

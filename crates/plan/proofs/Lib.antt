@@ -1,6 +1,5 @@
 pub mod Accepts
 pub mod Adjusting
-pub mod Checks
 pub mod FilledPlans
 pub mod Firsts
 pub mod Keepings

@@ -1,5 +1,5 @@
 -- A new plan is sound, and its one tuning costs 0.
-use Rattle.std.proofs.Common.{◌≡◌, ℕ, zero, suc, ◌<◌, true, false, List, [], get_or, replicate, refl, ap, ◌∙◌, arith}
+use Rattle.std.proofs.Common.{◌≡◌, ℕ, zero, suc, List, [], get_or, replicate, refl, ap, ◌∙◌, arith}
 use Rattle.std.proofs.lemmas.List.{length-replicate, nil_from_length}
 use Rattle.scale.specs.Laws.{Lawful}
 use Rattle.plan.specs.Costs.{cost}
@@ -11,11 +11,6 @@ pub zeros : (n i : ℕ) → ◌≡◌ {A = ℕ} (get_or (replicate n 0) i 0) 0
 zeros zero i = refl
 zeros (suc n) zero = refl
 zeros (suc n) (suc i) = zeros n i
-
-pub trues : (n i : ℕ) → i < n → get_or (replicate n true) i false ≡ true
-trues zero i h = absurd (omega arith)
-trues (suc n) zero h = refl
-trues (suc n) (suc i) h = trues n i (omega arith)
 
 pub new_sound : Sound new_tables
 new_sound = (

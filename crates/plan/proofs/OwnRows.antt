@@ -1,48 +1,23 @@
 -- How the entries are written one after another, and what stands where then.
-use Rattle.std.proofs.Common.{◌≡◌, ℕ, zero, suc, ◌+◌, ◌*◌, ◌<◌, ◌≤◌, List, length, get_or, set, sum, refl, ap, ◌∙◌, ⊎_elim, zero-add, add-one, arith}
-use Rattle.std.proofs.lemmas.List.Sums.{sum_by_more, sum_by-take-le}
-use Rattle.std.proofs.lemmas.Bool.{cases_eq}
+use Rattle.std.proofs.Common.{◌≡◌, ℕ, zero, suc, ◌+◌, ◌*◌, ◌<◌, ◌≤◌, List, length, get_or, take, drop, refl, ap, ◌∙◌, add-one, arith}
+use Rattle.std.proofs.lemmas.List.{get_or-take, get_or-drop}
+use Rattle.std.proofs.lemmas.Bool.Decides.{nat_tests}
 use Rattle.plan.specs.declared.tables.Entries.{Entries}
-use Rattle.plan.specs.Filling.{start, listed_own, own_rows, with_counts, with_own}
+use Rattle.plan.specs.Filling.{start, listed_own, own_rows, with_own}
 use Rattle.plan.specs.Layout.{written_from}
-use Rattle.plan.proofs.Writes.{length_written, written_more, written_in, written_before, written_low}
-
--- one count more
-pub count_written : (counts : List ℕ) (n : ℕ) (before x y : Entries) → x ≡ with_counts before (written_from 0 (λ e. get_or counts e 0) n before.counts) →
-    y ≡ with_counts x (set x.counts n (get_or counts n 0)) → y ≡ with_counts before (written_from 0 (λ e. get_or counts e 0) (n + 1) before.counts)
-count_written counts n before x y h put =
-    let place : 0 + n ≡ n = zero-add n in
-    let wrote : set x.counts n (get_or counts n 0) ≡ written_from 0 (λ e. get_or counts e 0) (n + 1) before.counts =
-    rw place at (written_more 0 (λ e. get_or counts e 0) n before.counts x.counts (get_or counts n 0) (ap (λ (y : Entries). y.counts) h) refl) in
-    put ∙ ap (with_counts x) wrote ∙ ap (λ (y : Entries). with_counts y (written_from 0 (λ e. get_or counts e 0) (n + 1) before.counts)) h
-
--- one own penalty more
-pub own_written : (o : ℕ) (f : ℕ → ℕ) (n : ℕ) (before x y : Entries) → x ≡ with_own before (written_from o f n before.own) →
-    y ≡ with_own x (set x.own (o + n) (f n)) → y ≡ with_own before (written_from o f (n + 1) before.own)
-own_written o f n before x y h put =
-    put ∙ ap (with_own x) (written_more o f n before.own x.own (f n) (ap (λ (y : Entries). y.own) h) refl)
-    ∙ ap (λ (y : Entries). with_own y (written_from o f (n + 1) before.own)) h
+use Rattle.plan.proofs.Writes.{length_written, written_same, written_in, written_before, written_low}
 
 -- one row more
-pub row_written : (counts own : List ℕ) (e at : ℕ) (before x y : Entries) → x ≡ with_own before (own_rows counts own e before.own) → at ≡ start counts e →
-    y ≡ with_own x (written_from (8 * e) (λ c. get_or own (at + c) 0) (get_or counts e 0) x.own) → y ≡ with_own before (own_rows counts own (e + 1) before.own)
-row_written counts own e at before x y h s w =
-    rw add-one (w ∙ ap (λ (a : ℕ). with_own x (written_from (8 * e) (λ c. get_or own (a + c) 0) (get_or counts e 0) x.own)) s
-    ∙ ap (λ (z : Entries). with_own z (written_from (8 * e) (listed_own counts own e) (get_or counts e 0) z.own)) h)
-
--- where the own penalties of an entry end, those of the next begin
-pub start_more : (counts : List ℕ) (e : ℕ) → e < length counts → start counts (e + 1) ≡ start counts e + get_or counts e 0
-start_more counts e h = sum_by_more (λ (n : ℕ). n) counts e 0 h
-
-pub start_within : (counts : List ℕ) (e : ℕ) → e < length counts → start counts e + get_or counts e 0 ≤ sum counts
-start_within counts e h = omega (arith, start_more counts e h, sum_by-take-le (λ (n : ℕ). n) counts (e + 1))
-
-pub start_low : (counts : List ℕ) → ((e : ℕ) → e < length counts → get_or counts e 0 ≤ 8) → (e : ℕ) → e ≤ length counts → start counts e ≤ 8 * e
-start_low counts few zero h = omega arith
-start_low counts few (suc e) h =
-    let more = start_more counts e h in
-    let here : start counts (e + 1) ≤ 8 * suc e = omega (arith, start_low counts few e (omega arith), few e h) in
-    rw add-one at here
+pub row_written : (counts own row : List ℕ) (e : ℕ) (before x y : Entries) → x ≡ with_own before (own_rows counts own e before.own) →
+    row ≡ take (get_or counts e 0) (drop (start counts e) own) → length row ≡ get_or counts e 0 →
+    y ≡ with_own x (written_from (8 * e) (λ c. get_or row c 0) (length row) x.own) → y ≡ with_own before (own_rows counts own (e + 1) before.own)
+row_written counts own row e before x y rows is long wrote =
+    let n = get_or counts e 0 in
+    let f = λ (c : ℕ). get_or row c 0 in
+    let each = λ (c : ℕ) (h : c < n). ap (λ (r : List ℕ). get_or r c 0) is ∙ get_or-take n (drop (start counts e) own) c 0 h ∙ get_or-drop (start counts e) own c 0 in
+    let same : written_from (8 * e) f (length row) x.own ≡ written_from (8 * e) (listed_own counts own e) n x.own =
+    ap (λ (m : ℕ). written_from (8 * e) f m x.own) long ∙ written_same (8 * e) f (listed_own counts own e) n x.own each in
+    rw add-one (wrote ∙ ap (with_own x) same ∙ ap (λ (z : Entries). with_own z (written_from (8 * e) (listed_own counts own e) n z.own)) rows)
 
 module _ (counts own : List ℕ) where
   pub length_rows : (n : ℕ) (places : List ℕ) → length (own_rows counts own n places) ≡ length places
@@ -57,15 +32,11 @@ module _ (counts own : List ℕ) where
       let rows = own_rows counts own n places in
       let low = few n (omega arith) in
       let low_e = few e he in
-      ⊎_elim
-      (λ (q : e ≡ n).
-      let within : c < get_or counts n 0 = rw q at hc in
-      rw q (written_in (8 * n) (listed_own counts own n) (get_or counts n 0) rows c 0 (omega (arith, length_rows n places)) within))
-      (λ (d : e ≡ n → ⊥).
-      let before : e < n = grind arith in
-      written_before (8 * n) (listed_own counts own n) (get_or counts n 0) rows (8 * e + c) 0 (omega arith)
-      ∙ rows_at n places e c long (omega arith) (λ i h. few i (omega arith)) before hc)
-      (cases_eq e n)
+      let long_rows = length_rows n places in
+      let here = written_in (8 * n) (listed_own counts own n) (get_or counts n 0) rows c 0 (omega arith) in
+      let before = written_before (8 * n) (listed_own counts own n) (get_or counts n 0) rows (8 * e + c) 0 in
+      let rec = rows_at n places e c long (omega arith) (λ i h. few i (omega arith)) in
+      grind (arith, nat_tests)
 
   -- no own penalty passes the ceiling
   pub rows_low : (ceiling n : ℕ) (places : List ℕ) → ((i : ℕ) → get_or own i 0 ≤ ceiling) → ((i : ℕ) → get_or places i 0 ≤ ceiling) → (i : ℕ) → get_or (own_rows counts own n places) i 0 ≤ ceiling

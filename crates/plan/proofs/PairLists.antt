@@ -1,10 +1,11 @@
 -- Each pair is listed once, and each record's pair is listed.
-use Rattle.std.proofs.Common.{◌≡◌, ℕ, zero, suc, ◌<◌, true, false, cond, eqb, List, [], ◌∷◌, ◌++◌, length, get_or, refl, ⊎_elim, arith}
-use Rattle.std.proofs.lemmas.List.{length_push}
-use Rattle.std.proofs.lemmas.Bool.{false≢true, cases_Bool, cases_eq}
+use Rattle.std.proofs.Common.{◌≡◌, ℕ, zero, suc, ◌<◌, true, false, cond, eqb, List, [], ◌∷◌, ◌++◌, length, get_or, ⊎_elim, arith}
+use Rattle.std.proofs.lemmas.List.{length_push, get_or_append_left, get_or_push, get_or_past}
+use Rattle.std.proofs.lemmas.Bool.{false≢true, cases_Bool}
 use Rattle.std.proofs.lemmas.Bool.Decides.{nat_tests}
 use Rattle.plan.specs.declared.records.PairRecord.{PairRecord}
-use Rattle.plan.specs.Records.{at, pair_met, known_pair, pairs_of}
+use Rattle.plan.specs.Records.{at, of_pair, pair_met, pairs_of}
+use Rattle.plan.proofs.RecordFaults.{met_longer}
 
 -- the entries of a listed pair
 abbrev pub first_in : List (ℕ × ℕ) → ℕ → ℕ
@@ -13,17 +14,9 @@ first_in ps q = (get_or ps q (0, 0)).0
 abbrev pub second_in : List (ℕ × ℕ) → ℕ → ℕ
 second_in ps q = (get_or ps q (0, 0)).1
 
-pub first_push : (ps : List (ℕ × ℕ)) (e o q : ℕ) → first_in (ps ++ (e, o) ∷ []) q ≡ cond (eqb q (length ps)) e (first_in ps q)
-first_push [] e o zero = refl
-first_push [] e o (suc q) = grind (arith, nat_tests)
-first_push (p ∷ ps) e o zero = grind (arith, nat_tests)
-first_push (p ∷ ps) e o (suc q) = let rec = first_push ps e o q in grind (arith, nat_tests)
-
-pub second_push : (ps : List (ℕ × ℕ)) (e o q : ℕ) → second_in (ps ++ (e, o) ∷ []) q ≡ cond (eqb q (length ps)) o (second_in ps q)
-second_push [] e o zero = refl
-second_push [] e o (suc q) = grind (arith, nat_tests)
-second_push (p ∷ ps) e o zero = grind (arith, nat_tests)
-second_push (p ∷ ps) e o (suc q) = let rec = second_push ps e o q in grind (arith, nat_tests)
+-- what stands at a place of a list with one more at its end
+pub get_or-push : {A : Type 0} (xs : List A) (x d : A) (q : ℕ) → get_or (xs ++ x ∷ []) q d ≡ cond (eqb q (length xs)) x (get_or xs q d)
+get_or-push xs x d q = let long = length_push xs x in grind (arith, nat_tests, get_or_append_left, get_or_push, get_or_past)
 
 module _ (rs : List PairRecord) where
   -- what no record is of is not listed
@@ -35,8 +28,7 @@ module _ (rs : List PairRecord) where
   unmet_more k e o q rec m h f s =
       let ps = pairs_of rs k in
       let r = at rs k in
-      let fp = first_push ps r.entry r.other q in
-      let sp = second_push ps r.entry r.other q in
+      let at_place = get_or-push ps (r.entry, r.other) (0, 0) q in
       let lp = length_push ps (r.entry, r.other) in
       grind (arith, nat_tests)
 
@@ -55,10 +47,8 @@ module _ (rs : List PairRecord) where
       let r = at rs k in
       let ui = unmet k r.entry r.other i in
       let uj = unmet k r.entry r.other j in
-      let fi = first_push ps r.entry r.other i in
-      let si = second_push ps r.entry r.other i in
-      let fj = first_push ps r.entry r.other j in
-      let sj = second_push ps r.entry r.other j in
+      let at_i = get_or-push ps (r.entry, r.other) (0, 0) i in
+      let at_j = get_or-push ps (r.entry, r.other) (0, 0) j in
       let lp = length_push ps (r.entry, r.other) in
       grind (arith, nat_tests)
 
@@ -79,8 +69,7 @@ module _ (rs : List PairRecord) where
       let ps = pairs_of rs k in
       let r = at rs k in
       let q = l.place in
-      let fp = first_push ps r.entry r.other q in
-      let sp = second_push ps r.entry r.other q in
+      let at_place = get_or-push ps (r.entry, r.other) (0, 0) q in
       let lp = length_push ps (r.entry, r.other) in
       record { place = q; within = grind (arith, nat_tests); first_is = grind (arith, nat_tests); second_is = grind (arith, nat_tests) }
 
@@ -90,26 +79,15 @@ module _ (rs : List PairRecord) where
       let ps = pairs_of rs k in
       let r = at rs k in
       let q = length ps in
-      let fp = first_push ps r.entry r.other q in
-      let sp = second_push ps r.entry r.other q in
+      let at_place = get_or-push ps (r.entry, r.other) (0, 0) q in
       let lp = length_push ps (r.entry, r.other) in
       ⊎_elim
       (λ (t : pair_met rs k e o ≡ true). still k e o (listed k e o t))
-      (λ (f : pair_met rs k e o ≡ false).
-      let he : r.entry ≡ e = grind (arith, nat_tests) in
-      let ho : r.other ≡ o = grind (arith, nat_tests) in
-      let new : known_pair rs k ≡ false = rw (he, ho) f in
-      record { place = q; within = grind (arith, nat_tests); first_is = grind (arith, nat_tests); second_is = grind (arith, nat_tests) })
+      (λ (f : pair_met rs k e o ≡ false). record { place = q; within = grind (arith, nat_tests); first_is = grind (arith, nat_tests); second_is = grind (arith, nat_tests) })
       (cases_Bool (pair_met rs k e o))
-
-  pub met_at : (k j : ℕ) → j < k → pair_met rs k (at rs j).entry (at rs j).other ≡ true
-  met_at zero j h = absurd (omega arith)
-  met_at (suc k) j h =
-      ⊎_elim
-      (λ (e : j ≡ k). rw e (grind (arith, nat_tests)))
-      (λ (d : j ≡ k → ⊥). let low : j < k = grind arith in let rec = met_at k j low in grind (arith, nat_tests))
-      (cases_eq j k)
 
   -- so the pair of each record is listed
   pub listed_at : (k j : ℕ) → j < k → Listed k (at rs j).entry (at rs j).other
-  listed_at k j h = listed k (at rs j).entry (at rs j).other (met_at k j h)
+  listed_at k j h =
+      let r = at rs j in
+      listed k r.entry r.other (met_longer (λ s. of_pair s r.entry r.other) rs j k h (grind (arith, nat_tests)))

@@ -1,8 +1,7 @@
 -- What a tuning pays by pairs is what it pays by records.
-use Rattle.std.proofs.Common.{◌≡◌, ℕ, zero, suc, ◌<◌, ◌≤◌, true, false, cond, ◌&&◌, eqb, List, [], ◌∷◌, map, length, get_or, filter, sym, refl, ap, ◌∙◌, ⊎_elim, arith}
+use Rattle.std.proofs.Common.{◌≡◌, ℕ, zero, suc, ◌<◌, ◌≤◌, false, cond, ◌&&◌, eqb, List, [], ◌∷◌, map, length, get_or, filter, sym, refl, ap, ◌∙◌, arith}
 use Rattle.std.proofs.lemmas.List.FromFn.{fill_by_all}
 use Rattle.std.proofs.lemmas.List.{length-map, get_or-map}
-use Rattle.std.proofs.lemmas.Bool.{cond_both, cases_Bool, cond-true, cond-false}
 use Rattle.std.proofs.lemmas.Bool.Decides.{nat_tests}
 use Rattle.scale.specs.Joins.{joined, joined_over}
 use Rattle.scale.specs.Laws.{Lawful}
@@ -47,15 +46,8 @@ module _ {c : ℕ} {join rest : ℕ → ℕ → ℕ} (law : Lawful c join rest) 
       let r = at rs k in
       let left = zero_left law r.points (fit.points_low k h) in
       let right = law.neutral (points_of rs k r.entry a r.other b) (points_low k r.entry a r.other b (omega arith)) in
-      ⊎_elim
-      (λ (y : (eqb r.candidate a && eqb r.choice b) ≡ true).
-      let ea : a ≡ r.candidate = grind (arith, nat_tests) in
-      let eb : b ≡ r.choice = grind (arith, nat_tests) in
-      let none : points_of rs k r.entry a r.other b ≡ 0 =
-      rw (ea, eb) (unnamed rs k r.entry r.candidate r.other r.choice (never_repeated c counts rs fit k h)) in
-      grind (arith, nat_tests))
-      (λ (n : (eqb r.candidate a && eqb r.choice b) ≡ false). grind (arith, nat_tests))
-      (cases_Bool (eqb r.candidate a && eqb r.choice b))
+      let none = unnamed rs k r.entry r.candidate r.other r.choice (never_repeated c counts rs fit k h) in
+      grind (arith, nat_tests)
 
   by_records : (k : ℕ) → k ≤ length rs → joined_over join (length ps) (chosen k) ≡ joined_over join k (λ j. adds (at rs j))
   by_records zero h = over_zero law (length ps) (chosen 0) (λ i l. refl)
@@ -73,12 +65,10 @@ module _ {c : ℕ} {join rest : ℕ → ℕ → ℕ} (law : Lawful c join rest) 
   kept_same [] = refl
   kept_same (r ∷ xs) =
       let rec = kept_same xs in
-      let front = joined_cons law (adds r) (map adds xs) in
-      cond_both (named_by t r) (r ∷ filter (named_by t) xs) (filter (named_by t) xs)
-      (λ (ys : List PairRecord). joined join (map (λ (s : PairRecord). s.points) ys) ≡ joined join (map adds (r ∷ xs)))
-      (λ e. joined_cons law r.points (map (λ (s : PairRecord). s.points) (filter (named_by t) xs)) ∙ ap (join r.points) rec
-      ∙ ap (λ (x : ℕ). join x (joined join (map adds xs))) (sym (cond-true _ _ _ e)) ∙ sym front)
-      (λ e. rec ∙ sym (joined_zero law (map adds xs)) ∙ ap (λ (x : ℕ). joined join (x ∷ map adds xs)) (sym (cond-false _ _ _ e)))
+      let all = joined_cons law (adds r) (map adds xs) in
+      let kept = joined_cons law r.points (map (λ (s : PairRecord). s.points) (filter (named_by t) xs)) in
+      let none = joined_zero law (map adds xs) in
+      grind (arith, nat_tests)
 
   by_list : joined_over join (length rs) (λ j. adds (at rs j)) ≡ joined join (map adds rs)
   by_list = sym (ap (joined join) (fill_by_all (λ j. adds (at rs j)) (map adds rs) (length rs) 0 (length-map rs adds) (λ j l. get_or-map adds rs j no_record 0 l)))

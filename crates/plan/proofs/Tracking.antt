@@ -1,7 +1,7 @@
 -- The pairs track the records that are written to them.
 use Rattle.std.proofs.Common.{◌≡◌, ℕ, zero, suc, ◌<◌, ◌≤◌, true, false, cond, ◌&&◌, eqb, List, [], ◌∷◌, ◌++◌, length, get_or, set, refl, ◌∙◌, ⊎_elim, arith}
 use Rattle.std.proofs.lemmas.List.{length-set, length_push, length-replicate}
-use Rattle.std.proofs.lemmas.Bool.{cases_eq, cases_Bool, cond-true, cond-false, eq-eqb, ne_eqb}
+use Rattle.std.proofs.lemmas.Bool.{cases_Bool, cond-true, cond-false, eq-eqb, ne_eqb}
 use Rattle.std.proofs.lemmas.Bool.Decides.{nat_tests}
 use Rattle.plan.specs.declared.records.PairRecord.{PairRecord}
 use Rattle.plan.specs.declared.tables.Pairs.{Pairs}
@@ -10,7 +10,7 @@ use Rattle.plan.specs.Filling.{pair_place, with_pair, with_room_for, with_cell, 
 use Rattle.plan.specs.Fillable.{RecordsFit}
 use Rattle.plan.specs.Fresh.{new_tables}
 use Rattle.plan.specs.Layout.{cell_place}
-use Rattle.plan.proofs.PairLists.{first_in, second_in, first_push, second_push, unmet, apart, listed}
+use Rattle.plan.proofs.PairLists.{get_or-push, unmet, apart, listed}
 use Rattle.plan.proofs.Accepts.{pairs_grow, room_for_pair}
 use Rattle.plan.proofs.NewPlans.{zeros}
 use Rattle.plan.proofs.PairPlaces.{place_top, place_hit, place_miss}
@@ -23,12 +23,10 @@ cell_in x q a b = get_or x.cells (cell_place q a b) 0
 -- the pairs are ps, and their cells have the points of the first k records; past them all is 0
 pub record Tracks (rs : List PairRecord) (k : ℕ) (ps : List (ℕ × ℕ)) (x : Pairs) : Type 0 where
   pub many : x.number ≡ length ps
-  pub firsts : (q : ℕ) → q < x.number → get_or x.firsts q 0 ≡ (get_or ps q (0, 0)).0
-  pub seconds : (q : ℕ) → q < x.number → get_or x.seconds q 0 ≡ (get_or ps q (0, 0)).1
+  pub ends : (q : ℕ) → q < x.number → get_or x.ends q (0, 0) ≡ get_or ps q (0, 0)
   pub cells : (q a b : ℕ) → q < x.number → q < 24 → a < 8 → b < 8 → cell_in x q a b ≡ points_of rs k (get_or ps q (0, 0)).0 a (get_or ps q (0, 0)).1 b
   pub zeros : (q a b : ℕ) → x.number ≤ q → q < 24 → a < 8 → b < 8 → cell_in x q a b ≡ 0
-  pub long_firsts : length x.firsts ≡ 24
-  pub long_seconds : length x.seconds ≡ 24
+  pub long_ends : length x.ends ≡ 24
   pub long_cells : length x.cells ≡ 1536
 
 abbrev pub Holds : List PairRecord → ℕ → Pairs → Type 0
@@ -46,8 +44,7 @@ module _ (rs : List PairRecord) (k : ℕ) (x : Pairs) (h : Holds rs k x) where
       let l = listed rs k e o m in
       let top = place_top x e o x.number in
       let many = h.many in
-      let f = h.firsts l.place in
-      let s = h.seconds l.place in
+      let same = h.ends l.place in
       let miss = place_miss x e o x.number l.place in
       let within = l.within in
       let fi = l.first_is in
@@ -60,8 +57,7 @@ module _ (rs : List PairRecord) (k : ℕ) (x : Pairs) (h : Holds rs k x) where
       let many = h.many in
       let hit = place_hit x e o x.number in
       let p = pair_place x e o in
-      let f = h.firsts p in
-      let s = h.seconds p in
+      let same = h.ends p in
       let none = unmet rs k e o p m in
       grind (arith, nat_tests)
 
@@ -83,12 +79,10 @@ module _ (rs : List PairRecord) (k : ℕ) (x : Pairs) (h : Holds rs k x) where
         let low : p < x.number = place_known r.entry r.other m in
         let many = h.many in
         let hit = place_hit x r.entry r.other x.number low in
-        let pf = h.firsts p low in
-        let ps = h.seconds p low in
+        let here = h.ends p low in
         record {
           many = h.many;
-          firsts = h.firsts;
-          seconds = h.seconds;
+          ends = h.ends;
           cells = λ q a b hq h24 ha hb.
               let put = cell_put p q a b (omega arith) h24 ha hb in
               let was = h.cells q a b hq h24 ha hb in
@@ -98,8 +92,7 @@ module _ (rs : List PairRecord) (k : ℕ) (x : Pairs) (h : Holds rs k x) where
               let put = cell_put p q a b (omega arith) h24 ha hb in
               let was = h.zeros q a b hq h24 ha hb in
               grind (arith, nat_tests);
-          long_firsts = h.long_firsts;
-          long_seconds = h.long_seconds;
+          long_ends = h.long_ends;
           long_cells = length-set x.cells _ _ ∙ h.long_cells;
         }
 
@@ -108,46 +101,28 @@ module _ (rs : List PairRecord) (k : ℕ) (x : Pairs) (h : Holds rs k x) where
         let p = x.number in
         let ps = pairs_of rs k in
         let many = h.many in
-        let lf = h.long_firsts in
-        let ls = h.long_seconds in
+        let long = h.long_ends in
         let lp = length_push ps (r.entry, r.other) in
         record {
           many = omega arith;
-          firsts = λ q hq.
-              let put = set_at x.firsts p q r.entry 0 (omega arith) in
-              let was = h.firsts q in
-              let push = first_push ps r.entry r.other q in
-              grind (arith, nat_tests);
-          seconds = λ q hq.
-              let put = set_at x.seconds p q r.other 0 (omega arith) in
-              let was = h.seconds q in
-              let push = second_push ps r.entry r.other q in
+          ends = λ q hq.
+              let put = set_at x.ends p q (r.entry, r.other) (0, 0) (omega arith) in
+              let was = h.ends q in
+              let push = get_or-push ps (r.entry, r.other) (0, 0) q in
               grind (arith, nat_tests);
           cells = λ q a b hq h24 ha hb.
               let put = cell_put p q a b few h24 ha hb in
-              let fp = first_push ps r.entry r.other q in
-              let sp = second_push ps r.entry r.other q in
-              ⊎_elim
-              (λ (s : q ≡ p).
-              let fe : first_in (ps ++ (r.entry, r.other) ∷ []) q ≡ r.entry = grind (arith, nat_tests) in
-              let se : second_in (ps ++ (r.entry, r.other) ∷ []) q ≡ r.other = grind (arith, nat_tests) in
-              let was = h.zeros q a b (omega arith) h24 ha hb in
+              let push = get_or-push ps (r.entry, r.other) (0, 0) q in
+              let was = h.cells q a b in
+              let zero = h.zeros q a b in
               let none = pairless rs k r.entry a r.other b m in
-              rw (fe, se) (grind (arith, nat_tests)))
-              (λ (d : q ≡ p → ⊥).
-              let low : q < p = grind arith in
-              let fe : first_in (ps ++ (r.entry, r.other) ∷ []) q ≡ first_in ps q = grind (arith, nat_tests) in
-              let se : second_in (ps ++ (r.entry, r.other) ∷ []) q ≡ second_in ps q = grind (arith, nat_tests) in
-              let was = h.cells q a b low h24 ha hb in
-              let none = unmet rs k r.entry r.other q m in
-              rw (fe, se) (grind (arith, nat_tests)))
-              (cases_eq q p);
+              let other = unmet rs k r.entry r.other q m in
+              grind (arith, nat_tests);
           zeros = λ q a b hq h24 ha hb.
               let put = cell_put p q a b few h24 ha hb in
               let was = h.zeros q a b (omega arith) h24 ha hb in
               grind (arith, nat_tests);
-          long_firsts = length-set x.firsts _ _ ∙ h.long_firsts;
-          long_seconds = length-set x.seconds _ _ ∙ h.long_seconds;
+          long_ends = length-set x.ends _ _ ∙ h.long_ends;
           long_cells = length-set x.cells _ _ ∙ h.long_cells;
         }
 
@@ -173,20 +148,17 @@ module _ (rs : List PairRecord) (k : ℕ) (x : Pairs) (h : Holds rs k x) where
     pub place_low : (known_pair rs k ≡ false → length (pairs_of rs k) < 24) → length (pairs_of rs k) ≤ 24 → pair_place x r.entry r.other < 24
     place_low room few =
         let many = h.many in
-        ⊎_elim
-        (λ (m : known_pair rs k ≡ true). let low = place_known r.entry r.other m in omega arith)
-        (λ (m : known_pair rs k ≡ false). let new = place_new r.entry r.other m in let less = room m in omega arith)
-        (cases_Bool (known_pair rs k))
+        let known = place_known r.entry r.other in
+        let new = place_new r.entry r.other in
+        grind (arith, nat_tests)
 
 holds_none : (rs : List PairRecord) → Holds rs 0 new_tables.pairs
 holds_none rs = record {
   many = refl;
-  firsts = λ q h. absurd (omega arith);
-  seconds = λ q h. absurd (omega arith);
+  ends = λ q h. absurd (omega arith);
   cells = λ q a b h _ _ _. absurd (omega arith);
   zeros = λ q a b _ _ _ _. zeros 1536 (cell_place q a b);
-  long_firsts = refl;
-  long_seconds = refl;
+  long_ends = refl;
   long_cells = length-replicate {A = ℕ} 1536 0;
 }
 

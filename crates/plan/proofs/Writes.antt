@@ -1,9 +1,11 @@
 -- What stands where after writes one after another.
-use Rattle.std.proofs.Common.{◌≡◌, ℕ, zero, suc, ◌+◌, ◌<◌, ◌≤◌, cond, eqb, List, [], ◌∷◌, ◌++◌, map, length, get_or, take, set, sym, refl, ap, ◌∙◌, ⊎_elim, append_assoc, append-nil, add-zero, add-one, arith}
+use Rattle.std.proofs.Common.{◌≡◌, ℕ, zero, suc, ◌+◌, ◌<◌, ◌≤◌, cond, eqb, List, [], ◌∷◌, ◌++◌, map, length, get_or, take, set, sym, refl, ap, ◌∙◌, append_assoc, append-nil, add-zero, add-one, arith}
 use Rattle.std.specs.List.{range_with_len}
 use Rattle.std.proofs.lemmas.List.FromFn.{map-range_with_len_more}
-use Rattle.std.proofs.lemmas.List.{length-set, get_or-set_same, get_or-set_other, take_more_set}
-use Rattle.std.proofs.lemmas.Bool.{cases_eq}
+use Rattle.std.proofs.lemmas.Slice.{put_mid-paste}
+use Rattle.std.proofs.Math.Seq.{paste, paste-zero, paste-suc}
+use borrow.Rule.Slice.PartMut.{put_mid}
+use Rattle.std.proofs.lemmas.List.{set_past, length-set, get_or-set_same, get_or-set_other, take_more_set}
 use Rattle.std.proofs.lemmas.Bool.Decides.{nat_tests}
 use Rattle.plan.specs.Layout.{written_from}
 
@@ -37,23 +39,30 @@ module _ {A : Type 0} (o : ℕ) (f : ℕ → A) where
   pub written_in : (n : ℕ) (xs : List A) (k : ℕ) (d : A) → o + n ≤ length xs → k < n → get_or (written_from o f n xs) (o + k) d ≡ f k
   written_in zero xs k d h l = absurd (omega arith)
   written_in (suc n) xs k d h l =
-      let ys = written_from o f n xs in
-      ⊎_elim
-      (λ (q : k ≡ n). rw q (get_or-set_same ys (o + n) (f n) d (omega (arith, length_written n xs))))
-      (λ (e : k ≡ n → ⊥). get_or-set_other ys (o + n) (o + k) (f n) d (λ (z : o + k ≡ o + n). e (omega arith)) ∙ written_in n xs k d (omega arith) (grind arith))
-      (cases_eq k n)
+      let rec = written_in n xs k d (omega arith) in
+      let put = set_at (written_from o f n xs) (o + n) (o + k) (f n) d (omega (arith, length_written n xs)) in
+      grind (arith, nat_tests)
 
   pub written_before : (n : ℕ) (xs : List A) (i : ℕ) (d : A) → i < o → get_or (written_from o f n xs) i d ≡ get_or xs i d
   written_before zero xs i d h = refl
   written_before (suc n) xs i d h = get_or-set_other (written_from o f n xs) (o + n) i (f n) d (λ (z : i ≡ o + n). omega arith) ∙ written_before n xs i d h
 
+  pub written_same : (g : ℕ → A) (n : ℕ) (xs : List A) → ((k : ℕ) → k < n → f k ≡ g k) → written_from o f n xs ≡ written_from o g n xs
+  written_same g zero xs h = refl
+  written_same g (suc n) xs h = rw (written_same g n xs (λ k l. h k (omega arith)), h n (omega arith)) refl
+
+-- the items of a list written from o on are the list copied there
+written-paste : (o n : ℕ) (zs xs : List ℕ) → n ≤ length zs → o + length zs ≤ length xs → written_from o (λ i. get_or zs i 0) n xs ≡ paste xs o zs n
+written-paste o zero zs xs h l = paste-zero xs o zs
+written-paste o (suc n) zs xs h l =
+    ap (λ ys. set ys (o + n) (get_or zs n 0)) (written-paste o n zs xs (omega arith) l) ∙ paste-suc xs o zs n 0 (omega arith) h
+
+pub copied : (o k : ℕ) (xs ys zs : List ℕ) → ys ≡ zs → k ≡ length zs → o + k ≤ length xs → put_mid o k xs ys ≡ written_from o (λ i. get_or zs i 0) (length zs) xs
+copied o k xs ys zs is many h = put_mid-paste o k xs ys zs (length zs) is (sym many) refl ∙ sym (written-paste o (length zs) zs xs (omega arith) (omega arith))
+
 -- no number passes c after a write of one that does not
 pub set_low : (c : ℕ) (xs : List ℕ) (i v : ℕ) → v ≤ c → ((k : ℕ) → get_or xs k 0 ≤ c) → (k : ℕ) → get_or (set xs i v) k 0 ≤ c
-set_low c [] i v h low k = low k
-set_low c (x ∷ xs) zero v h low zero = h
-set_low c (x ∷ xs) zero v h low (suc k) = low (suc k)
-set_low c (x ∷ xs) (suc i) v h low zero = low zero
-set_low c (x ∷ xs) (suc i) v h low (suc k) = set_low c xs i v h (λ j. low (suc j)) k
+set_low c xs i v h low k = let here = low k in grind (arith, nat_tests, get_or-set_same, get_or-set_other, set_past)
 
 pub written_low : (c o : ℕ) (f : ℕ → ℕ) (n : ℕ) (xs : List ℕ) → ((k : ℕ) → k < n → f k ≤ c) → ((k : ℕ) → get_or xs k 0 ≤ c) → (k : ℕ) → get_or (written_from o f n xs) k 0 ≤ c
 written_low c o f zero xs h low k = low k

@@ -1,6 +1,7 @@
 -- Why lists are refused, and where: the first fault in the order of the checks.
 use Rattle.std.specs.Prelude.{ℕ, zero, suc, Bool, cond, ◌&&◌, ◌||◌, List, length, Some, None, sum, Option, ◌==◌, nat_le, nat_lt, slice_index}
 use Rattle.scale.specs.Ceilings.{highest}
+use Rattle.plan.specs.declared.lists.Lists.{Lists}
 use Rattle.plan.specs.declared.records.PairRecord.{PairRecord}
 use Rattle.plan.specs.declared.refusals.FillFault.{FillFault}
 use Rattle.plan.specs.declared.refusals.FillList.{FillList}
@@ -78,3 +79,7 @@ fill_fault x ceiling counts own rs =
     (or_later (counts_fault counts) (or_later (own_fault ceiling counts own) (in_list Pairs (first_fault (record_fault ceiling counts rs) (length rs)))))
     (fault_at Counts CeilingOutOfRange 0))
     (fault_at Counts AlreadyFilled 0)
+
+-- why lists do not fill the tables x, if they do not
+abbrev pub fault_of : Tables → Lists → Option FillFault
+fault_of x lists = fill_fault x lists.ceiling lists.counts.now lists.own.now lists.records.now

@@ -3,6 +3,7 @@ use Rattle.std.specs.Prelude.{◌≡◌, ℕ, ◌<◌, ◌≤◌, Bool, ◌&&◌
 use Rattle.std.specs.List.{range_with_len}
 use Rattle.scale.specs.Ceilings.{highest}
 use Rattle.scale.specs.Joins.{joined}
+use Rattle.plan.specs.declared.lists.Lists.{Lists}
 use Rattle.plan.specs.declared.records.PairRecord.{PairRecord}
 use Rattle.plan.specs.declared.tables.Tables.{Tables}
 use Rattle.plan.specs.Filling.{listed_own}
@@ -38,6 +39,10 @@ pub record ListsFit (ceiling : ℕ) (counts own : List ℕ) (rs : List PairRecor
 pub record Fillable (x : Tables) (ceiling : ℕ) (counts own : List ℕ) (rs : List PairRecord) : Type 0 where
   pub still_empty : x.entries.number ≡ 0
   pub lists_fit : ListsFit ceiling counts own rs
+
+-- lists fill the tables x
+abbrev pub FillableBy : Tables → Lists → Type 0
+FillableBy x lists = Fillable x lists.ceiling lists.counts.now lists.own.now lists.records.now
 
 -- the tuning t names both candidates of a record
 abbrev pub named_by : List ℕ → PairRecord → Bool

@@ -1,5 +1,6 @@
 -- What lists make of a plan's tables, and what filling answers and leaves.
-use Rattle.std.specs.Prelude.{ℕ, zero, suc, ◌+◌, ◌*◌, ◌<◌, ◌≤◌, Bool, cond, ◌&&◌, List, length, take, Some, None, Ok, Err, sum, Option, Result, ◌==◌, nat_lt, slice_index, slice_index_or, slice_set}
+use Rattle.std.specs.Prelude.{ℕ, zero, suc, ◌+◌, ◌*◌, ◌<◌, ◌≤◌, Bool, cond, ◌&&◌, List, length, take, None, sum, Result, ◌==◌, nat_lt, slice_index, slice_index_or, slice_set}
+use Rattle.plan.specs.declared.lists.Lists.{Lists}
 use Rattle.plan.specs.declared.records.PairRecord.{PairRecord}
 use Rattle.plan.specs.declared.refusals.FillFault.{FillFault}
 use Rattle.plan.specs.declared.tables.Entries.{Entries}
@@ -9,6 +10,7 @@ use Rattle.plan.specs.Faults.{fill_fault}
 use Rattle.plan.specs.Fresh.{new_tables}
 use Rattle.plan.specs.Layout.{cell_place, written_from}
 use Rattle.plan.specs.Records.{at}
+use Rattle.plan.specs.Refusing.{answered, unless_refused}
 
 -- where the own penalties of the entry e begin in their list: behind those of the entries before it
 abbrev pub start : List ℕ → ℕ → ℕ
@@ -88,17 +90,13 @@ filled_tables ceiling counts own rs = record {
   hand = None;
 }
 
+-- the tables of lists
+abbrev pub tables_of : Lists → Tables
+tables_of lists = filled_tables lists.ceiling lists.counts.now lists.own.now lists.records.now
+
 -- what is answered, and what is left
-abbrev pub answer_to : Option FillFault → Result (Unit {0}) FillFault
-answer_to None = Ok tt
-answer_to (Some fault) = Err fault
-
-abbrev pub left_by : Option FillFault → Tables → Tables → Tables
-left_by None before filled = filled
-left_by (Some fault) before filled = before
-
 abbrev pub fill_answer : Tables → ℕ → List ℕ → List ℕ → List PairRecord → Result (Unit {0}) FillFault
-fill_answer x ceiling counts own rs = answer_to (fill_fault x ceiling counts own rs)
+fill_answer x ceiling counts own rs = answered (fill_fault x ceiling counts own rs)
 
 abbrev pub fill_after : Tables → ℕ → List ℕ → List ℕ → List PairRecord → Tables
-fill_after x ceiling counts own rs = left_by (fill_fault x ceiling counts own rs) x (filled_tables ceiling counts own rs)
+fill_after x ceiling counts own rs = unless_refused (fill_fault x ceiling counts own rs) x (filled_tables ceiling counts own rs)

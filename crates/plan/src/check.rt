@@ -1,10 +1,12 @@
 // Whether lists fill a plan: the first fault, in the order of the checks.
-ghost use Rattle.std.specs.Prelude.{◌≡◌, ℕ, ◌<◌, ◌≤◌, ◌&&◌, length, sum, MatchOption, nat_le, nat_lt, slice_index};
-ghost use Rattle.plan.specs.Faults.{counts_fault, own_fault, names_absent, lone_fault, record_fault, first_fault, in_list, fill_fault};
-ghost use Rattle.plan.specs.Fillable.{Fillable};
+ghost use Rattle.std.specs.Prelude.{◌≡◌, ℕ, ◌<◌, ◌≤◌, ◌&&◌, length, sum, MatchResult, nat_le, nat_lt};
+ghost use Rattle.plan.specs.Faults.{counts_fault, own_fault, names_absent, lone_fault, record_fault, first_fault, in_list, fault_of};
+ghost use Rattle.plan.specs.Fillable.{FillableBy};
 ghost use Rattle.plan.specs.Records.{of_pair, names_cell};
+ghost use Rattle.plan.specs.Refusing.{Finds};
 ghost use Rattle.plan.specs.declared.refusals.FillList.TheVariants.{Pairs};
 
+use crate::lists::Lists;
 use crate::records::PairRecord;
 use crate::refusals::{FillFault, FillList, Refusal};
 use crate::tables::{MOST_CANDIDATES, MOST_ENTRIES, MOST_PAIRS, Tables};
@@ -24,103 +26,11 @@ fn too_many(entries: usize) -> bool
     entries > MOST_ENTRIES
 }
 
-// There are 1 to 16 counts, each from 1 to 8.
-fn counts_fault(counts: &[usize]) -> Option<FillFault>
-    ensures is_the_first_fault { result ≡ counts_fault counts.now }
-{
-    if counts.is_empty() {
-        return Some(FillFault {
-            refusal: Refusal::CountOutOfRange,
-            list: FillList::Counts,
-            place: 0,
-        });
-    }
-    if too_many(counts.len()) {
-        return Some(FillFault {
-            refusal: Refusal::CountOutOfRange,
-            list: FillList::Counts,
-            place: MOST_ENTRIES,
-        });
-    }
-    for (place, count) in counts.iter().enumerate() {
-        if !is_count(*count) {
-            return Some(FillFault {
-                refusal: Refusal::CountOutOfRange,
-                list: FillList::Counts,
-                place,
-            });
-        }
-    }
-    None
-}
-
-// The number of all candidates.
-fn total(counts: &[usize]) -> usize
-    requires few { length counts.now ≤ 16 }
-    requires each_few { (e : ℕ) → e < length counts.now → slice_index counts.now e ≤ 8 }
-    ensures is_the_sum { result ≡ sum counts.now }
-{
-    let mut total: usize = 0;
-    for count in counts {
-        total += *count;
-    }
-    total
-}
-
 // Whether points are above the ceiling.
 fn is_above(ceiling: u32, points: u32) -> bool
     ensures is_so { result ≡ nat_lt ceiling points }
 {
     points > ceiling
-}
-
-// There is an own penalty for each candidate, at most the ceiling.
-fn own_fault(ceiling: u32, counts: &[usize], own: &[u32]) -> Option<FillFault>
-    requires few { length counts.now ≤ 16 }
-    requires each_few { (e : ℕ) → e < length counts.now → slice_index counts.now e ≤ 8 }
-    ensures is_the_first_fault { result ≡ own_fault ceiling counts.now own.now }
-{
-    let total = total(counts);
-    if own.len() != total {
-        return Some(FillFault {
-            refusal: Refusal::OwnLength,
-            list: FillList::Own,
-            place: total,
-        });
-    }
-    for (place, points) in own.iter().enumerate() {
-        if is_above(ceiling, *points) {
-            return Some(FillFault {
-                refusal: Refusal::PointsAboveCeiling,
-                list: FillList::Own,
-                place,
-            });
-        }
-    }
-    None
-}
-
-// Whether a record names what is absent, or its first entry is not the lower one.
-fn names_absent(counts: &[usize], r: &PairRecord) -> bool
-    ensures is_so { result ≡ names_absent counts.now r.now }
-{
-    r.entry >= r.other
-        || r.other >= counts.len()
-        || r.candidate >= counts[r.entry]
-        || r.choice >= counts[r.other]
-}
-
-// What is wrong with a record by itself.
-fn lone_fault(ceiling: u32, counts: &[usize], r: &PairRecord) -> Option<Refusal>
-    ensures is_the_first_fault { result ≡ lone_fault ceiling counts.now r.now }
-{
-    if names_absent(counts, r) {
-        return Some(Refusal::RecordOfAbsent);
-    }
-    if is_above(ceiling, r.points) {
-        return Some(Refusal::PointsAboveCeiling);
-    }
-    None
 }
 
 // Whether there is no room for a pair more.
@@ -134,109 +44,143 @@ fn is_full(pairs: usize) -> bool
 fn same_pair(s: &PairRecord, r: &PairRecord) -> bool
     ensures is_so { result ≡ of_pair s.now r.now.entry r.now.other }
 {
-    s.entry == r.entry && s.other == r.other
+    (s.entry, s.other) == (r.entry, r.other)
 }
 
 fn same_cell(s: &PairRecord, r: &PairRecord) -> bool
     ensures is_so { result ≡ names_cell s.now r.now.entry r.now.candidate r.now.other r.now.choice }
 {
-    same_pair(s, r) && s.candidate == r.candidate && s.choice == r.choice
+    same_pair(s, r) && (s.candidate, s.choice) == (r.candidate, r.choice)
 }
 
-// The first record with a fault: each is held against those before it, and the loops are left at the first fault.
-fn first_record_fault(
-    ceiling: u32,
-    counts: &[usize],
-    records: &[PairRecord],
-) -> Option<(Refusal, usize)>
-    ensures is_the_first_fault { result ≡ first_fault (record_fault ceiling counts.now records.now) (length records.now) }
-{
-    let mut fault = None;
-    let mut pairs: usize = 0;
-    'records: for i in 0..records.len() {
-        let r = records[i];
-        if let Some(refusal) = lone_fault(ceiling, counts, &r) {
-            fault = Some((refusal, i));
-            break 'records;
+impl Lists<'_> {
+    // There are 1 to 16 counts, each from 1 to 8.
+    fn check_counts(&self) -> Result<(), FillFault>
+        ensures is_the_first_fault { Finds (counts_fault self.now.counts.now) result }
+    {
+        if self.counts.is_empty() {
+            return Err(FillFault::at(Refusal::CountOutOfRange, FillList::Counts, 0));
         }
-        let mut known = false;
-        for j in 0..i {
-            let s = records[j];
-            if same_pair(&s, &r) {
-                known = true;
-                if same_cell(&s, &r) {
-                    fault = Some((Refusal::RepeatedCell, i));
-                    break 'records;
+        if too_many(self.counts.len()) {
+            return Err(FillFault::at(Refusal::CountOutOfRange, FillList::Counts, MOST_ENTRIES));
+        }
+        for (place, &count) in self.counts.iter().enumerate() {
+            if !is_count(count) {
+                return Err(FillFault::at(Refusal::CountOutOfRange, FillList::Counts, place));
+            }
+        }
+        Ok(())
+    }
+
+    // The number of all candidates.
+    fn total(&self) -> usize
+        requires few { sum self.now.counts.now ≤ 128 }
+        ensures is_the_sum { result ≡ sum self.now.counts.now }
+    {
+        self.counts.iter().sum()
+    }
+
+    // There is an own penalty for each candidate, at most the ceiling.
+    fn check_own(&self) -> Result<(), FillFault>
+        requires few { sum self.now.counts.now ≤ 128 }
+        ensures is_the_first_fault { Finds
+            (own_fault self.now.ceiling self.now.counts.now self.now.own.now) result }
+    {
+        let total = self.total();
+        if self.own.len() != total {
+            return Err(FillFault::at(Refusal::OwnLength, FillList::Own, total));
+        }
+        for (place, &points) in self.own.iter().enumerate() {
+            if is_above(self.ceiling, points) {
+                return Err(FillFault::at(Refusal::PointsAboveCeiling, FillList::Own, place));
+            }
+        }
+        Ok(())
+    }
+
+    // Whether a record names what is absent, or its first entry is not the lower one.
+    fn names_absent(&self, r: &PairRecord) -> bool
+        ensures is_so { result ≡ names_absent self.now.counts.now r.now }
+    {
+        r.entry >= r.other
+            || r.other >= self.counts.len()
+            || r.candidate >= self.counts[r.entry]
+            || r.choice >= self.counts[r.other]
+    }
+
+    // A record by itself names what is there, and its points are at most the ceiling.
+    fn check_alone(&self, r: &PairRecord) -> Result<(), Refusal>
+        ensures is_the_first_fault { Finds
+            (lone_fault self.now.ceiling self.now.counts.now r.now) result }
+    {
+        if self.names_absent(r) {
+            return Err(Refusal::RecordOfAbsent);
+        }
+        if is_above(self.ceiling, r.points) {
+            return Err(Refusal::PointsAboveCeiling);
+        }
+        Ok(())
+    }
+
+    // Each record is held against those before it. A rule of the project: a repeated cell or a pair
+    // too many is sought by nested loops, which are left at the first fault by their label.
+    fn check_records(&self) -> Result<(), FillFault>
+        ensures is_the_first_fault { Finds
+            (in_list Pairs
+            (first_fault (record_fault self.now.ceiling self.now.counts.now self.now.records.now)
+            (length self.now.records.now)))
+            result }
+    {
+        let mut pairs: usize = 0;
+        'records: {
+            for (i, r) in self.records.iter().enumerate() {
+                let fault = move |refusal| FillFault::at(refusal, FillList::Pairs, i);
+                if let Err(refusal) = self.check_alone(r) {
+                    break 'records Err(fault(refusal));
+                }
+                let mut known = false;
+                for s in &self.records[..i] {
+                    if same_pair(s, r) {
+                        known = true;
+                        if same_cell(s, r) {
+                            break 'records Err(fault(Refusal::RepeatedCell));
+                        }
+                    }
+                }
+                if !known {
+                    if is_full(pairs) {
+                        break 'records Err(fault(Refusal::TooManyPairs));
+                    }
+                    pairs += 1;
                 }
             }
-        }
-        if !known {
-            if is_full(pairs) {
-                fault = Some((Refusal::TooManyPairs, i));
-                break 'records;
-            }
-            pairs += 1;
+            Ok(())
         }
     }
-    fault
-}
-
-// The first fault of the records, with its list.
-fn records_fault(ceiling: u32, counts: &[usize], records: &[PairRecord]) -> Option<FillFault>
-    ensures is_the_first_fault { result ≡ in_list Pairs (first_fault (record_fault ceiling counts.now records.now) (length records.now)) }
-{
-    let (refusal, place) = first_record_fault(ceiling, counts, records)?;
-    Some(FillFault {
-        refusal,
-        list: FillList::Pairs,
-        place,
-    })
 }
 
 impl Tables {
-    // Why lists do not fill these tables, if they do not.
-    pub(crate) fn fill_fault(
-        &self,
-        ceiling: u32,
-        counts: &[usize],
-        own: &[u32],
-        records: &[PairRecord],
-    ) -> Option<FillFault>
-        ensures is_the_first_fault { result ≡ fill_fault self.now ceiling counts.now own.now records.now }
-        ensures none_exactly_where_fillable { MatchOption result (Fillable self.now ceiling counts.now own.now records.now) (λ _. Fillable self.now ceiling counts.now own.now records.now → ⊥) }
+    // Whether lists fill these tables, or else why not, at the first fault.
+    pub(crate) fn check_fill(&self, lists: &Lists) -> Result<(), FillFault>
+        ensures is_the_first_fault { Finds (fault_of self.now lists.now) result }
+        ensures none_exactly_where_fillable { MatchResult result
+            (λ _. FillableBy self.now lists.now) (λ _. ¬ FillableBy self.now lists.now) }
     {
-        self.first_fault(ceiling, counts, own, records)
+        self.check_in_order(lists)
     }
 
-    fn first_fault(
-        &self,
-        ceiling: u32,
-        counts: &[usize],
-        own: &[u32],
-        records: &[PairRecord],
-    ) -> Option<FillFault>
-        ensures is_the_first_fault { result ≡ fill_fault self.now ceiling counts.now own.now records.now }
+    // The checks, in their order.
+    fn check_in_order(&self, lists: &Lists) -> Result<(), FillFault>
+        ensures is_the_first_fault { Finds (fault_of self.now lists.now) result }
     {
         if self.entries.number != 0 {
-            return Some(FillFault {
-                refusal: Refusal::AlreadyFilled,
-                list: FillList::Counts,
-                place: 0,
-            });
+            return Err(FillFault::at(Refusal::AlreadyFilled, FillList::Counts, 0));
         }
-        if ceiling < 1 || ceiling > HIGHEST_CEILING {
-            return Some(FillFault {
-                refusal: Refusal::CeilingOutOfRange,
-                list: FillList::Counts,
-                place: 0,
-            });
+        if lists.ceiling < 1 || lists.ceiling > HIGHEST_CEILING {
+            return Err(FillFault::at(Refusal::CeilingOutOfRange, FillList::Counts, 0));
         }
-        if let Some(fault) = counts_fault(counts) {
-            return Some(fault);
-        }
-        if let Some(fault) = own_fault(ceiling, counts, own) {
-            return Some(fault);
-        }
-        records_fault(ceiling, counts, records)
+        lists.check_counts()?;
+        lists.check_own()?;
+        lists.check_records()
     }
 }

@@ -1,20 +1,22 @@
 // Filling a plan.
-ghost use Rattle.std.specs.Prelude.{◌≡◌, ℕ, List, is_ok, Ok, Err, Decides, OnOk};
+ghost use Rattle.std.specs.Prelude.{◌≡◌, ◌↔◌, ℕ, List, IsOk, OnErr, OnOk};
 ghost use Rattle.plan.specs.Costs.{cost};
-ghost use Rattle.plan.specs.Fillable.{Fillable, ListedTuning, OpenAsListed, filled_cost};
-ghost use Rattle.plan.specs.Filling.{filled_tables, fill_answer, fill_after};
+ghost use Rattle.plan.specs.Fillable.{Fillable, FillableBy, ListedTuning, OpenAsListed, filled_cost};
+ghost use Rattle.plan.specs.Filling.{tables_of, fill_answer, fill_after};
 ghost use Rattle.plan.specs.Histories.{Call, played, NoCheapTuningLost};
 ghost use Rattle.plan.specs.Invariant.{Sound};
 
 use crate::Plan;
+use crate::lists::Lists;
 use crate::records::PairRecord;
 use crate::refusals::FillFault;
 use crate::tables::Tables;
 use scale::Scale;
 
 impl<S: Scale> Plan<S> {
-    // Fills an empty plan: `counts` has the number of candidates of each entry, `own` their own penalties by entry and
-    // then candidate, and `pairs` the points of cells. Cells that are not listed are 0, and everything is open.
+    // Fills an empty plan: `counts` has the number of candidates of each entry, `own` their own
+    // penalties by entry and then candidate, and `pairs` the points of cells. Cells that are not
+    // listed are 0, and everything is open.
     pub fn fill(
         &mut self,
         ceiling: u32,
@@ -22,31 +24,55 @@ impl<S: Scale> Plan<S> {
         own: &[u32],
         pairs: &[PairRecord],
     ) -> Result<(), FillFault>
-        ensures answers { result ≡ fill_answer self.old.tables ceiling counts.now own.now pairs.now }
-        ensures leaves { self.new.tables ≡ fill_after self.old.tables ceiling counts.now own.now pairs.now }
-        ensures refusal_changes_nothing { elim result [ Ok _ ↦ Unit {0} | Err _ ↦ self.new.tables ≡ self.old.tables ] }
+        ensures answers { result
+            ≡ fill_answer self.old.tables ceiling counts.now own.now pairs.now }
+        ensures leaves { self.new.tables
+            ≡ fill_after self.old.tables ceiling counts.now own.now pairs.now }
+        ensures refusal_changes_nothing { OnErr result (self.new.tables ≡ self.old.tables) }
         ensures keeps_its_scale { self.new.scale ≡ self.old.scale }
-        ensures accepts_exactly_what_is_fillable { Decides (is_ok result) (Fillable self.old.tables ceiling counts.now own.now pairs.now) }
-        ensures its_open_tunings_are_those_of_the_lists { OnOk result ((t : List ℕ) → OpenAsListed counts.now self.new.tables t) }
-        ensures every_tuning_costs_its_filled_cost { OnOk result ((t : List ℕ) → ListedTuning counts.now t → cost (S.join self.new.scale ceiling) self.new.tables t ≡ filled_cost (S.join self.new.scale ceiling) counts.now own.now pairs.now t) }
-        ensures no_calls_lose_a_cheap_tuning { OnOk result ((calls : List Call) → NoCheapTuningLost (S.join self.new.scale ceiling) counts.now own.now pairs.now (played (S.join self.new.scale ceiling) (S.rest self.new.scale ceiling) self.new.tables calls)) }
+        ensures accepts_exactly_what_is_fillable { IsOk result
+            ↔ (Fillable self.old.tables ceiling counts.now own.now pairs.now) }
+        ensures its_open_tunings_are_those_of_the_lists { OnOk result
+            ((t : List ℕ) → OpenAsListed counts.now self.new.tables t) }
+        ensures every_tuning_costs_its_filled_cost { OnOk result
+            ((t : List ℕ) → ListedTuning counts.now t
+            → cost (S.join self.new.scale ceiling) self.new.tables t
+            ≡ filled_cost (S.join self.new.scale ceiling) counts.now own.now pairs.now t) }
+        ensures no_calls_lose_a_cheap_tuning { OnOk result
+            ((calls : List Call)
+            → NoCheapTuningLost (S.join self.new.scale ceiling) counts.now own.now pairs.now
+            (played (S.join self.new.scale ceiling) (S.rest self.new.scale ceiling)
+            self.new.tables calls)) }
     {
-        if let Some(fault) = self.tables.fill_fault(ceiling, counts, own, pairs) {
-            return Err(fault);
-        }
-        self.tables = self.filled(ceiling, counts, own, pairs);
+        let lists = Lists {
+            ceiling,
+            counts,
+            own,
+            records: pairs,
+        };
+        self.tables.check_fill(&lists)?;
+        self.tables = self.filled(&lists);
         Ok(())
     }
 
     // The tables that lists make, and what tunings cost by them.
-    fn filled(&self, ceiling: u32, counts: &[usize], own: &[u32], pairs: &[PairRecord]) -> Tables
-        requires fillable { Fillable self.now.tables ceiling counts.now own.now pairs.now }
-        ensures are_the_filled_tables { result ≡ filled_tables ceiling counts.now own.now pairs.now }
+    fn filled(&self, lists: &Lists) -> Tables
+        requires fillable { FillableBy self.now.tables lists.now }
+        ensures are_the_filled_tables { result ≡ tables_of lists.now }
         ensures are_sound { Sound result }
-        ensures open_tunings_are_those_of_the_lists { (t : List ℕ) → OpenAsListed counts.now result t }
-        ensures every_tuning_costs_its_filled_cost { (t : List ℕ) → ListedTuning counts.now t → cost (S.join self.now.scale ceiling) result t ≡ filled_cost (S.join self.now.scale ceiling) counts.now own.now pairs.now t }
-        ensures no_calls_lose_a_cheap_tuning { (calls : List Call) → NoCheapTuningLost (S.join self.now.scale ceiling) counts.now own.now pairs.now (played (S.join self.now.scale ceiling) (S.rest self.now.scale ceiling) result calls) }
+        ensures open_tunings_are_those_of_the_lists { (t : List ℕ)
+            → OpenAsListed lists.now.counts.now result t }
+        ensures every_tuning_costs_its_filled_cost { (t : List ℕ)
+            → ListedTuning lists.now.counts.now t
+            → cost (S.join self.now.scale lists.now.ceiling) result t
+            ≡ filled_cost (S.join self.now.scale lists.now.ceiling) lists.now.counts.now
+            lists.now.own.now lists.now.records.now t }
+        ensures no_calls_lose_a_cheap_tuning { (calls : List Call)
+            → NoCheapTuningLost (S.join self.now.scale lists.now.ceiling) lists.now.counts.now
+            lists.now.own.now lists.now.records.now
+            (played (S.join self.now.scale lists.now.ceiling)
+            (S.rest self.now.scale lists.now.ceiling) result calls) }
     {
-        Tables::filled(ceiling, counts, own, pairs)
+        lists.tables()
     }
 }

@@ -1,47 +1,31 @@
 // Tables made from lists.
-ghost use Rattle.std.specs.Prelude.{◌≡◌, ℕ, ◌+◌, ◌*◌, ◌<◌, ◌≤◌, length, sum, slice_index, slice_set};
+ghost use Rattle.std.specs.Prelude.{◌≡◌, ℕ, ◌+◌, ◌*◌, ◌<◌, ◌≤◌, ◌&&◌, length, position, sum, take, ◌==◌, slice_index};
 ghost use Rattle.plan.specs.Fillable.{ListsFit};
-ghost use Rattle.plan.specs.Filling.{own_rows, with_counts, with_own, pair_place, with_record, with_records, Writable, filled_tables};
-ghost use Rattle.plan.specs.Layout.{candidate_place, written_from};
+ghost use Rattle.plan.specs.Filling.{own_rows, with_counts, with_own, pair_place, with_room_for, with_record, with_records, Writable, tables_of};
+ghost use Rattle.plan.specs.Layout.{written_from};
 
+use crate::lists::Lists;
 use crate::records::PairRecord;
 use crate::tables::{Entries, Pairs, Tables};
 
 impl Entries {
-    fn put_count(&mut self, e: usize, count: usize)
-        requires there { e < 16 }
-        ensures puts_it { self.new ≡ with_counts self.old (slice_set self.old.counts e count) }
-    {
-        self.counts[e] = count;
-    }
-
+    // The counts, from the first place on.
     fn write_counts(&mut self, counts: &[usize])
         requires few { length counts.now ≤ 16 }
-        ensures writes_them { self.new ≡ with_counts self.old (written_from 0 (λ e. slice_index counts.now e) (length counts.now) self.old.counts) }
+        ensures writes_them { self.new ≡ with_counts self.old
+            (written_from 0 (λ e. slice_index counts.now e) (length counts.now) self.old.counts) }
     {
-        for e in 0..counts.len() {
-            self.put_count(e, counts[e]);
-        }
+        self.counts[..counts.len()].copy_from_slice(counts);
     }
 
-    pub(crate) fn put_own(&mut self, e: usize, c: usize, points: u32)
+    // The own penalties of an entry.
+    fn write_row(&mut self, e: usize, row: &[u32])
         requires there { e < 16 }
-        requires few { c < 8 }
-        ensures puts_it { self.new ≡ with_own self.old (slice_set self.old.own (candidate_place e c) points) }
+        requires few { length row.now ≤ 8 }
+        ensures writes_them { self.new ≡ with_own self.old
+            (written_from (8 * e) (λ c. slice_index row.now c) (length row.now) self.old.own) }
     {
-        self.own[8 * e + c] = points;
-    }
-
-    // The own penalties of an entry, which begin at `start` in their list.
-    fn write_row(&mut self, e: usize, start: usize, count: usize, own: &[u32])
-        requires there { e < 16 }
-        requires few { count ≤ 8 }
-        requires listed { start + count ≤ length own.now }
-        ensures writes_them { self.new ≡ with_own self.old (written_from (8 * e) (λ c. slice_index own.now (start + c)) count self.old.own) }
-    {
-        for c in 0..count {
-            self.put_own(e, c, own[start + c]);
-        }
+        self.own[8 * e..8 * e + row.len()].copy_from_slice(row);
     }
 
     // The own penalties of all entries.
@@ -49,30 +33,47 @@ impl Entries {
         requires few { length counts.now ≤ 16 }
         requires each_few { (e : ℕ) → e < length counts.now → slice_index counts.now e ≤ 8 }
         requires own_for_each { length own.now ≡ sum counts.now }
-        ensures writes_them { self.new ≡ with_own self.old (own_rows counts.now own.now (length counts.now) self.old.own) }
+        ensures writes_them { self.new ≡ with_own self.old
+            (own_rows counts.now own.now (length counts.now) self.old.own) }
     {
-        let mut start: usize = 0;
-        for e in 0..counts.len() {
-            self.write_row(e, start, counts[e], own);
-            start += counts[e];
+        let mut rest = own;
+        for (e, &count) in counts.iter().enumerate() {
+            let (row, later) = rest.split_at(count);
+            self.write_row(e, row);
+            rest = later;
         }
     }
 }
 
 impl Pairs {
-    // The number of the pair of two entries, or the next number where it is new.
-    fn place(&self, entry: usize, other: usize) -> usize
-        requires few { self.now.number ≤ 24 }
-        ensures is_its_place { result ≡ pair_place self.now entry other }
+    // The number of the pair of two entries, if it is there.
+    fn find(&self, entry: usize, other: usize) -> Option<usize>
+        ensures is_the_first { result ≡ position (λ ends. ends.0 == entry && ends.1 == other)
+            (take self.now.number self.now.ends) }
     {
-        for p in 0..self.number {
-            if self.ends[p] == (entry, other) {
-                return p;
-            }
-        }
-        self.number
+        self.ends
+            .iter()
+            .take(self.number)
+            .position(|ends| *ends == (entry, other))
     }
 
+    // Its number; where it is new, it takes the next.
+    fn room_for(&mut self, entry: usize, other: usize) -> usize
+        requires few { self.old.number ≤ 24 }
+        requires place_low { pair_place self.old entry other < 24 }
+        ensures is_its_place { result ≡ pair_place self.old entry other }
+        ensures makes_room { self.new ≡ with_room_for self.old entry other }
+    {
+        if let Some(place) = self.find(entry, other) {
+            return place;
+        }
+        let place = self.number;
+        self.ends[place] = (entry, other);
+        self.number += 1;
+        place
+    }
+
+    // The points of a record, in the cell that it names.
     fn write(&mut self, r: &PairRecord)
         requires few { self.old.number ≤ 24 }
         requires place_low { pair_place self.old r.now.entry r.now.other < 24 }
@@ -80,11 +81,7 @@ impl Pairs {
         requires choice_low { r.now.choice < 8 }
         ensures writes_it { self.new ≡ with_record self.old r.now }
     {
-        let p = self.place(r.entry, r.other);
-        if p == self.number {
-            self.ends[p] = (r.entry, r.other);
-            self.number += 1;
-        }
+        let p = self.room_for(r.entry, r.other);
         self.cells[64 * p + 8 * r.candidate + r.choice] = r.points;
     }
 
@@ -93,28 +90,24 @@ impl Pairs {
         requires writable { (k : ℕ) → k < length records.now → Writable self.old records.now k }
         ensures writes_them { self.new ≡ with_records records.now (length records.now) self.old }
     {
-        for i in 0..records.len() {
-            self.write(&records[i]);
+        for record in records {
+            self.write(record);
         }
     }
 }
 
-impl Tables {
-    // The tables that lists make.
-    pub(crate) fn filled(
-        ceiling: u32,
-        counts: &[usize],
-        own: &[u32],
-        records: &[PairRecord],
-    ) -> Tables
-        requires fit { ListsFit ceiling counts.now own.now records.now }
-        ensures are_the_filled_tables { result ≡ filled_tables ceiling counts.now own.now records.now }
+impl Lists<'_> {
+    // The tables that they make.
+    pub(crate) fn tables(&self) -> Tables
+        requires fit { ListsFit self.now.ceiling self.now.counts.now self.now.own.now
+            self.now.records.now }
+        ensures are_the_filled_tables { result ≡ tables_of self.now }
     {
-        let mut tables = Tables::empty(ceiling);
-        tables.entries.number = counts.len();
-        tables.entries.write_counts(counts);
-        tables.entries.write_own(counts, own);
-        tables.pairs.write_all(records);
+        let mut tables = Tables::empty(self.ceiling);
+        tables.entries.number = self.counts.len();
+        tables.entries.write_counts(self.counts);
+        tables.entries.write_own(self.counts, self.own);
+        tables.pairs.write_all(self.records);
         tables
     }
 }

@@ -10,6 +10,7 @@ pub mod cost;
 pub mod fill;
 mod filling;
 pub mod lifting;
+mod lists;
 pub mod make;
 mod parts;
 pub mod place;

@@ -40,7 +40,9 @@ impl<S: Scale> Plan<S> {
     pub fn new(scale: S) -> Plan<S>
         ensures holds_nothing { result.tables ≡ new_tables }
         ensures has_the_scale { result.scale ≡ scale }
-        ensures its_one_tuning_is_empty_and_costs_zero { (t : List ℕ) → OpenTuning result.tables t → (t ≡ []) × (cost (S.join scale result.tables.limits.ceiling) result.tables t ≡ 0) }
+        ensures its_one_tuning_is_empty_and_costs_zero { (t : List ℕ)
+            → OpenTuning result.tables t
+            → (t ≡ []) × (cost (S.join scale result.tables.limits.ceiling) result.tables t ≡ 0) }
     {
         Plan::started(scale, Tables::empty(1))
     }
@@ -49,7 +51,9 @@ impl<S: Scale> Plan<S> {
         requires holds_nothing { tables ≡ new_tables }
         ensures has_the_tables { result.tables ≡ tables }
         ensures has_the_scale { result.scale ≡ scale }
-        ensures its_one_tuning_is_empty_and_costs_zero { (t : List ℕ) → OpenTuning result.tables t → (t ≡ []) × (cost (S.join scale result.tables.limits.ceiling) result.tables t ≡ 0) }
+        ensures its_one_tuning_is_empty_and_costs_zero { (t : List ℕ)
+            → OpenTuning result.tables t
+            → (t ≡ []) × (cost (S.join scale result.tables.limits.ceiling) result.tables t ≡ 0) }
     {
         Plan { scale, tables }
     }

@@ -53,3 +53,15 @@ pub struct FillFault {
     pub list: FillList,
     pub place: usize,
 }
+
+impl FillFault {
+    pub(crate) fn at(refusal: Refusal, list: FillList, place: usize) -> FillFault
+        ensures is_of_these { result ≡ record { refusal = refusal; list = list; place = place } }
+    {
+        FillFault {
+            refusal,
+            list,
+            place,
+        }
+    }
+}

@@ -1,4 +1,5 @@
-// The plain tables of a plan: 8 places for each of 16 entries, and 64 for each of 24 pairs.
+// The plain tables of a plan: 8 places for each of 16 entries, and 64 for each of 24 pairs. A rule of
+// the project: a plan allocates nothing and holds plain arrays, with their numbers beside them.
 
 // The most entries, candidates of an entry, and pairs.
 pub const MOST_ENTRIES: usize = 16;
@@ -7,7 +8,8 @@ pub const MOST_CANDIDATES: usize = 8;
 
 pub const MOST_PAIRS: usize = 24;
 
-// The entries: how many candidates each has, and of each candidate its own penalty and whether it is open.
+// The entries: how many candidates each has, and of each candidate its own penalty and whether it
+// is open.
 #[derive(Clone, Copy)]
 pub struct Entries {
     pub number: usize,
@@ -16,7 +18,8 @@ pub struct Entries {
     pub marks: [bool; 128],
 }
 
-// The pairs: the two entries of each, the lower one first, and a cell for each candidate of the one with each of the other.
+// The pairs: the two entries of each, the lower one first, and a cell for each candidate of the one
+// with each of the other.
 #[derive(Clone, Copy)]
 pub struct Pairs {
     pub number: usize,
@@ -24,7 +27,8 @@ pub struct Pairs {
     pub cells: [u32; 1536],
 }
 
-// The floor, which every tuning pays; the ceiling, which no penalty passes; and the bound, below which a tuning is sought.
+// The floor, which every tuning pays; the ceiling, which no penalty passes; and the bound, below
+// which a tuning is sought.
 #[derive(Clone, Copy, Debug, PartialEq, Eq)]
 pub struct Limits {
     pub floor: u32,

@@ -1,8 +1,10 @@
-use Rattle.std.proofs.Common.{◌+◌, ◌*◌, get_or}
-use Rattle.plan.proofs.OwnRows.{own_written}
+use Rattle.std.proofs.Common.{◌*◌, ◌+◌, ◌-◌, length, ap, arith}
+use Rattle.plan.specs.Filling.{with_own}
+use Rattle.plan.proofs.Writes.{copied}
 use Rattle.plan.proofs.tables.Entries.write_row.Goals as goal
 
-pub loop-c-preserved : goal.loop-c-preserved
-loop-c-preserved c =
-    own_written (8 * c.args.e) (λ k. get_or c.args.own.now (c.args.start + k) 0) c.loop-c.c c.args.self.now c.loop-c.self c.put_own.new.self c.loop-c.invariant
-    c.put_own.ensures.puts_it
+pub returns : goal.returns
+returns c =
+    let o = 8 * c.args.e in
+    let row = c.args.row.now in
+    record { writes_them = ap (with_own c.args.self.now) (copied o (o + length row - o) c.args.self.now.own c.copy_from_slice.new.self row c.copy_from_slice.ensures.after (omega arith) (omega arith)) }

@@ -1,6 +1,6 @@
 use Rattle.std.proofs.Common.{◌≡◌, None}
 use Rattle.plan.specs.Faults.{first_fault, count_fault}
-use Rattle.plan.proofs.check.counts_fault.Given as goal
+use Rattle.plan.proofs.lists.Lists.check_counts.Given as goal
 
 abbrev pub invariant-loop-place : goal.invariant-loop-place
-invariant-loop-place l = first_fault (count_fault l.counts) l.place ≡ None
+invariant-loop-place l = first_fault (count_fault l.self.counts.now) l.place ≡ None
