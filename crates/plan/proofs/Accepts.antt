@@ -5,11 +5,12 @@ use Rattle.std.proofs.lemmas.List.Sums.{sum_by-le}
 use Rattle.std.proofs.lemmas.List.Elements.{All-from_get_or}
 use Rattle.std.proofs.lemmas.Bool.{cases_eq, cases_Bool}
 use Rattle.std.proofs.lemmas.Bool.Decides.{nat_tests}
+use Rattle.plan.specs.declared.lists.Lists.{Lists}
 use Rattle.plan.specs.declared.records.PairRecord.{PairRecord}
 use Rattle.plan.specs.declared.refusals.FillFault.{FillFault}
 use Rattle.plan.specs.declared.tables.Tables.{Tables}
-use Rattle.plan.specs.Faults.{first_fault, count_fault, counts_fault, penalty_fault, own_fault, record_fault, fill_fault}
-use Rattle.plan.specs.Fillable.{RecordsFit, Fillable}
+use Rattle.plan.specs.Faults.{first_fault, count_fault, counts_fault, penalty_fault, own_fault, record_fault, fill_fault, fault_of}
+use Rattle.plan.specs.Fillable.{RecordsFit, Fillable, FillableBy}
 use Rattle.plan.specs.Records.{at, names_cell, known_pair, repeated_cell, pairs_of}
 use Rattle.plan.specs.Refusing.{Finds}
 use Rattle.plan.proofs.Firsts.{none_at, none_below}
@@ -161,8 +162,8 @@ module _ (x : Tables) (ceiling : ℕ) (counts own : List ℕ) (rs : List PairRec
       let of_records = records_clean ceiling counts rs l.records_fit in
       grind (arith, nat_tests)
 
-  -- so a check that finds the first fault decides
-  pub decided : (result : Result (Unit {0}) FillFault) → Finds (fill_fault x ceiling counts own rs) result →
-      MatchResult result (λ _. Fillable x ceiling counts own rs) (λ _. ¬ Fillable x ceiling counts own rs)
-  decided (Ok done) none = fillable none
-  decided (Err fault) found = λ f. let none = accepted f in cc
+-- so a check that finds the first fault decides
+pub decided : (x : Tables) (lists : Lists) (result : Result (Unit {0}) FillFault) → Finds (fault_of x lists) result →
+    MatchResult result (λ _. FillableBy x lists) (λ _. ¬ FillableBy x lists)
+decided x lists (Ok done) none = fillable x lists.ceiling lists.counts.now lists.own.now lists.records.now none
+decided x lists (Err fault) found = λ f. let none = accepted x lists.ceiling lists.counts.now lists.own.now lists.records.now f in cc

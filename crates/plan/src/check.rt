@@ -166,13 +166,6 @@ impl Tables {
         ensures none_exactly_where_fillable { MatchResult result
             (λ _. FillableBy self.now lists.now) (λ _. ¬ FillableBy self.now lists.now) }
     {
-        self.check_in_order(lists)
-    }
-
-    // The checks, in their order.
-    fn check_in_order(&self, lists: &Lists) -> Result<(), FillFault>
-        ensures is_the_first_fault { Finds (fault_of self.now lists.now) result }
-    {
         if self.entries.number != 0 {
             return Err(FillFault::at(Refusal::AlreadyFilled, FillList::Counts, 0));
         }

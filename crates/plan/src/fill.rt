@@ -1,16 +1,14 @@
 // Filling a plan.
 ghost use Rattle.std.specs.Prelude.{◌≡◌, ◌↔◌, ℕ, List, IsOk, OnErr, OnOk};
 ghost use Rattle.plan.specs.Costs.{cost};
-ghost use Rattle.plan.specs.Fillable.{Fillable, FillableBy, ListedTuning, OpenAsListed, filled_cost};
-ghost use Rattle.plan.specs.Filling.{tables_of, fill_answer, fill_after};
+ghost use Rattle.plan.specs.Fillable.{Fillable, ListedTuning, OpenAsListed, filled_cost};
+ghost use Rattle.plan.specs.Filling.{fill_answer, fill_after};
 ghost use Rattle.plan.specs.Histories.{Call, played, NoCheapTuningLost};
-ghost use Rattle.plan.specs.Invariant.{Sound};
 
 use crate::Plan;
 use crate::lists::Lists;
 use crate::records::PairRecord;
 use crate::refusals::FillFault;
-use crate::tables::Tables;
 use scale::Scale;
 
 impl<S: Scale> Plan<S> {
@@ -51,28 +49,7 @@ impl<S: Scale> Plan<S> {
             records: pairs,
         };
         self.tables.check_fill(&lists)?;
-        self.tables = self.filled(&lists);
+        self.tables = lists.tables();
         Ok(())
-    }
-
-    // The tables that lists make, and what tunings cost by them.
-    fn filled(&self, lists: &Lists) -> Tables
-        requires fillable { FillableBy self.now.tables lists.now }
-        ensures are_the_filled_tables { result ≡ tables_of lists.now }
-        ensures are_sound { Sound result }
-        ensures open_tunings_are_those_of_the_lists { (t : List ℕ)
-            → OpenAsListed lists.now.counts.now result t }
-        ensures every_tuning_costs_its_filled_cost { (t : List ℕ)
-            → ListedTuning lists.now.counts.now t
-            → cost (S.join self.now.scale lists.now.ceiling) result t
-            ≡ filled_cost (S.join self.now.scale lists.now.ceiling) lists.now.counts.now
-            lists.now.own.now lists.now.records.now t }
-        ensures no_calls_lose_a_cheap_tuning { (calls : List Call)
-            → NoCheapTuningLost (S.join self.now.scale lists.now.ceiling) lists.now.counts.now
-            lists.now.own.now lists.now.records.now
-            (played (S.join self.now.scale lists.now.ceiling)
-            (S.rest self.now.scale lists.now.ceiling) result calls) }
-    {
-        lists.tables()
     }
 }
