@@ -14,10 +14,6 @@ pub set_at : {A : Type 0} (xs : List A) (i k : ℕ) (v d : A) → i < length xs 
 set_at xs i k v d h = grind (arith, nat_tests, get_or-set_same, get_or-set_other)
 
 module _ {A : Type 0} (o : ℕ) (f : ℕ → A) where
-  -- one write more
-  pub written_more : (n : ℕ) (xs ys : List A) (v : A) → ys ≡ written_from o f n xs → v ≡ f n → set ys (o + n) v ≡ written_from o f (n + 1) xs
-  written_more n xs ys v h e = rw (add-one, h, e)
-
   pub length_written : (n : ℕ) (xs : List A) → length (written_from o f n xs) ≡ length xs
   length_written zero xs = refl
   length_written (suc n) xs = length-set (written_from o f n xs) (o + n) (f n) ∙ length_written n xs

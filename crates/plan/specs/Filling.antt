@@ -1,5 +1,5 @@
 -- What lists make of a plan's tables, and what filling answers and leaves.
-use Rattle.std.specs.Prelude.{ℕ, zero, suc, ◌+◌, ◌*◌, ◌<◌, ◌≤◌, Bool, cond, ◌&&◌, List, length, take, None, sum, Result, ◌==◌, nat_lt, slice_index, slice_index_or, slice_set}
+use Rattle.std.specs.Prelude.{ℕ, zero, suc, ◌+◌, ◌*◌, ◌<◌, ◌≤◌, Bool, if◌then◌else◌, ◌&&◌, List, length, take, None, sum, Result, ◌==◌, nat_lt, slice_index, slice_index_or, slice_set}
 use Rattle.plan.specs.declared.lists.Lists.{Lists}
 use Rattle.plan.specs.declared.records.PairRecord.{PairRecord}
 use Rattle.plan.specs.declared.refusals.FillFault.{FillFault}
@@ -46,7 +46,7 @@ abbrev pub is_pair : Pairs → ℕ → ℕ → ℕ → Bool
 is_pair x e o p = (slice_index_or x.ends p (0, 0)).0 == e && (slice_index_or x.ends p (0, 0)).1 == o
 
 abbrev pub next_place : ℕ → ℕ → Bool → ℕ
-next_place p k here = cond (nat_lt p k) p (cond here k (suc k))
+next_place p k here = if nat_lt p k then p else if here then k else suc k
 
 abbrev pub place_among : Pairs → ℕ → ℕ → ℕ → ℕ
 place_among x e o zero = 0
@@ -61,7 +61,7 @@ with_pair x e o = record { number = x.number + 1; ends = slice_set x.ends x.numb
 
 -- the pair is there, or takes the next number
 abbrev pub with_room_for : Pairs → ℕ → ℕ → Pairs
-with_room_for x e o = cond (pair_place x e o == x.number) (with_pair x e o) x
+with_room_for x e o = if pair_place x e o == x.number then with_pair x e o else x
 
 abbrev pub with_cell : Pairs → ℕ → ℕ → Pairs
 with_cell x i points = record { number = x.number; ends = x.ends; cells = slice_set x.cells i points }

@@ -1,5 +1,5 @@
 -- What a list of records says. A record gives the points of one cell: of a candidate of an entry with a choice of another.
-use Rattle.std.specs.Prelude.{ℕ, zero, suc, Bool, false, cond, ◌&&◌, ◌||◌, List, [], ◌∷◌, ◌++◌, ◌==◌, slice_index_or}
+use Rattle.std.specs.Prelude.{ℕ, zero, suc, Bool, false, if◌then◌else◌, ◌&&◌, ◌||◌, List, [], ◌∷◌, ◌++◌, ◌==◌, slice_index_or}
 use Rattle.plan.specs.declared.records.PairRecord.{PairRecord}
 
 abbrev pub no_record : PairRecord
@@ -37,9 +37,9 @@ repeated_cell rs k = cell_met rs k (at rs k).entry (at rs k).candidate (at rs k)
 -- the different pairs of the first k records, in the order in which they first occur
 abbrev pub pairs_of : List PairRecord → ℕ → List (ℕ × ℕ)
 pairs_of rs zero = []
-pairs_of rs (suc k) = cond (known_pair rs k) (pairs_of rs k) (pairs_of rs k ++ ((at rs k).entry, (at rs k).other) ∷ [])
+pairs_of rs (suc k) = if known_pair rs k then pairs_of rs k else pairs_of rs k ++ ((at rs k).entry, (at rs k).other) ∷ []
 
 -- the points that the first k records give a cell: those of the one that names it, or else 0
 abbrev pub points_of : List PairRecord → ℕ → ℕ → ℕ → ℕ → ℕ → ℕ
 points_of rs zero e a o b = 0
-points_of rs (suc k) e a o b = cond (names_cell (at rs k) e a o b) (at rs k).points (points_of rs k e a o b)
+points_of rs (suc k) e a o b = if names_cell (at rs k) e a o b then (at rs k).points else points_of rs k e a o b

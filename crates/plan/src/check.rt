@@ -1,6 +1,8 @@
 // Whether lists fill a plan: the first fault, in the order of the checks.
-ghost use Rattle.std.specs.Prelude.{◌≡◌, ℕ, ◌<◌, ◌≤◌, ◌&&◌, length, sum, MatchResult, nat_le, nat_lt};
-ghost use Rattle.plan.specs.Faults.{counts_fault, own_fault, names_absent, lone_fault, record_fault, first_fault, in_list, fault_of};
+ghost use Rattle.std.specs.Prelude.{◌≡◌, ℕ, ◌<◌, ◌≤◌, ◌&&◌, length, sum, MatchResult, nat_le};
+ghost use Rattle.std.specs.Prelude.{nat_lt};
+ghost use Rattle.plan.specs.Faults.{counts_fault, own_fault, names_absent, lone_fault};
+ghost use Rattle.plan.specs.Faults.{record_fault, first_fault, in_list, fault_of};
 ghost use Rattle.plan.specs.Fillable.{FillableBy};
 ghost use Rattle.plan.specs.Records.{of_pair, names_cell};
 ghost use Rattle.plan.specs.Refusing.{Finds};

@@ -1,7 +1,9 @@
 // Tables made from lists.
-ghost use Rattle.std.specs.Prelude.{◌≡◌, ℕ, ◌+◌, ◌*◌, ◌<◌, ◌≤◌, ◌&&◌, length, position, sum, take, ◌==◌, slice_index};
+ghost use Rattle.std.specs.Prelude.{◌≡◌, ℕ, ◌+◌, ◌*◌, ◌<◌, ◌≤◌, ◌&&◌, length, position, sum, take};
+ghost use Rattle.std.specs.Prelude.{◌==◌, slice_index};
 ghost use Rattle.plan.specs.Fillable.{ListsFit};
-ghost use Rattle.plan.specs.Filling.{own_rows, with_counts, with_own, pair_place, with_room_for, with_record, with_records, Writable, tables_of};
+ghost use Rattle.plan.specs.Filling.{own_rows, with_counts, with_own, pair_place, with_room_for};
+ghost use Rattle.plan.specs.Filling.{with_record, with_records, Writable, tables_of};
 ghost use Rattle.plan.specs.Layout.{written_from};
 
 use crate::lists::Lists;

@@ -150,8 +150,8 @@ impl<S: Scale> Plan<S> {
     ) -> Result<Token, Refusal>
         ensures answers { result ≡ lift_answer self.old.tables from entry candidate amount }
         ensures the_token_is_in_hand { IfOk result
-            (λ token. is_in_hand self.new.tables.hand token.held.entry token.held.candidate token.held.amount
-            ≡ true) }
+            (λ token. is_in_hand self.new.tables.hand
+            token.held.entry token.held.candidate token.held.amount ≡ true) }
         ensures leaves { self.new.tables ≡ lift_after (at_ceiling S.rest self.old) self.old.tables
             from entry candidate amount }
         ensures refusal_changes_nothing { OnErr result (self.new.tables ≡ self.old.tables) }

@@ -44,17 +44,9 @@ impl<S: Scale> Plan<S> {
             → OpenTuning result.tables t
             → (t ≡ []) × (cost (S.join scale result.tables.limits.ceiling) result.tables t ≡ 0) }
     {
-        Plan::started(scale, Tables::empty(1))
-    }
-
-    fn started(scale: S, tables: Tables) -> Plan<S>
-        requires holds_nothing { tables ≡ new_tables }
-        ensures has_the_tables { result.tables ≡ tables }
-        ensures has_the_scale { result.scale ≡ scale }
-        ensures its_one_tuning_is_empty_and_costs_zero { (t : List ℕ)
-            → OpenTuning result.tables t
-            → (t ≡ []) × (cost (S.join scale result.tables.limits.ceiling) result.tables t ≡ 0) }
-    {
-        Plan { scale, tables }
+        Plan {
+            scale,
+            tables: Tables::empty(1),
+        }
     }
 }

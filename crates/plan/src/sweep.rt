@@ -88,6 +88,8 @@ impl<S> Plan<S> {
     }
 }
 
+// The loops count candidates, entries and pairs, which have no other name than their number. Each
+// step changes the plan, so no list of them is lent: an iterator would be no plainer.
 impl<S: Scale> Plan<S> {
     // Moves the least of a row to the own penalty, if the candidate is open.
     fn row_to_own(&mut self, entry: usize, pair: usize, candidate: usize)

@@ -1,5 +1,5 @@
-// The plain tables of a plan: 8 places for each of 16 entries, and 64 for each of 24 pairs. A rule of
-// the project: a plan allocates nothing and holds plain arrays, with their numbers beside them.
+// The plain tables of a plan: 8 places for each of 16 entries, and 64 for each of 24 pairs. A rule
+// of the project: a plan allocates nothing and holds plain arrays, with their numbers beside them.
 
 // The most entries, candidates of an entry, and pairs.
 pub const MOST_ENTRIES: usize = 16;
@@ -44,7 +44,8 @@ pub struct Hand {
     pub amount: u32,
 }
 
-// How far settling came: the sweeps made, and whether the last of them changed nothing.
+// How far settling came: the sweeps made, and whether the last of them changed nothing. Both are
+// always meant, so neither stands in an Option.
 #[derive(Clone, Copy, Debug, PartialEq, Eq)]
 pub struct Settled {
     pub sweeps: u32,
