@@ -14,7 +14,7 @@ use Rattle.plan.specs.Fillable.{RecordsFit, Fillable, FillableBy}
 use Rattle.plan.specs.Records.{at, names_cell, known_pair, repeated_cell, pairs_of}
 use Rattle.plan.specs.Refusing.{Finds}
 use Rattle.plan.proofs.Firsts.{none_at, none_below}
-use Rattle.plan.proofs.RecordFaults.{repeated_by, met_by}
+use Rattle.plan.proofs.MetRecords.{repeated_by, met_by}
 
 -- where a test decides between a fault and what comes later, none is found only if it passes
 pub passed : {A : Type 0} (b : Bool) (fault : A) (later : Option A) → cond b later (Some fault) ≡ None → (b ≡ true) × (later ≡ None)

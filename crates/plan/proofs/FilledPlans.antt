@@ -23,7 +23,7 @@ use Rattle.plan.proofs.OpenTunings.{tuning_from_open}
 use Rattle.plan.proofs.OwnRows.{length_rows, rows_at, rows_low}
 use Rattle.plan.proofs.PairLists.{first_in, second_in, unmet}
 use Rattle.plan.proofs.RecordCosts.{chosen, pairs_as_records}
-use Rattle.plan.proofs.RecordFaults.{met_by}
+use Rattle.plan.proofs.MetRecords.{met_by}
 use Rattle.plan.proofs.Tracking.{cell_in, Holds, held}
 use Rattle.plan.proofs.Writes.{written_in, written_low, set_low}
 

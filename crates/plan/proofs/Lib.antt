@@ -4,6 +4,7 @@ pub mod FilledPlans
 pub mod Firsts
 pub mod Keepings
 pub mod Lifts
+pub mod MetRecords
 pub mod NewPlans
 pub mod OpenTunings
 pub mod OwnRows
@@ -13,7 +14,6 @@ pub mod SweptTables
 pub mod StableTables
 pub mod Playing
 pub mod RecordCosts
-pub mod RecordFaults
 pub mod RowSteps
 pub mod Tracking
 pub mod Transfers

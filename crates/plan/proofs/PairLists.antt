@@ -5,7 +5,7 @@ use Rattle.std.proofs.lemmas.Bool.{false≢true, cases_Bool}
 use Rattle.std.proofs.lemmas.Bool.Decides.{nat_tests}
 use Rattle.plan.specs.declared.records.PairRecord.{PairRecord}
 use Rattle.plan.specs.Records.{at, of_pair, pair_met, pairs_of}
-use Rattle.plan.proofs.RecordFaults.{met_longer}
+use Rattle.plan.proofs.MetRecords.{met_longer}
 
 -- the entries of a listed pair
 abbrev pub first_in : List (ℕ × ℕ) → ℕ → ℕ

@@ -14,7 +14,8 @@ use crate::refusals::{FillFault, FillList, Refusal};
 use crate::tables::{MOST_CANDIDATES, MOST_ENTRIES, MOST_PAIRS, Tables};
 use scale::ceiling::HIGHEST_CEILING;
 
-// Whether a count is from 1 to 8.
+// Whether a count is from 1 to 8. Here and below each limit has a test of its own, in which its
+// constant meets the number that the contract names.
 fn is_count(count: usize) -> bool
     ensures is_in_range { result ≡ (nat_le 1 count && nat_le count 8) }
 {

@@ -55,6 +55,7 @@ pub struct FillFault {
 }
 
 impl FillFault {
+    // Refused at a place of a list.
     pub(crate) fn at(refusal: Refusal, list: FillList, place: usize) -> FillFault
         ensures is_of_these { result ≡ record { refusal = refusal; list = list; place = place } }
     {

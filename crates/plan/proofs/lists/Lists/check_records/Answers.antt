@@ -5,7 +5,7 @@ use Rattle.std.proofs.lemmas.Bool.Decides.{nat_tests}
 use Rattle.plan.specs.declared.refusals.Refusal.TheVariants.{RepeatedCell, TooManyPairs}
 use Rattle.plan.specs.Faults.{record_fault}
 use Rattle.plan.proofs.Firsts.{first_here}
-use Rattle.plan.proofs.RecordFaults.{repeated_by}
+use Rattle.plan.proofs.MetRecords.{repeated_by}
 use Rattle.plan.proofs.lists.Lists.check_records.Goals as goal
 use Rattle.plan.proofs.lists.Lists.check_records.Goals.{then-same_pair+else-same_cell, else-same_pair}
 
