@@ -1,9 +1,9 @@
 -- The marks of an entry, taken out of all marks: what is done by them is done for its open candidates.
-use Rattle.std.proofs.Common.{◌≡◌, ℕ, zero, suc, ◌+◌, ◌*◌, ◌-◌, ◌<◌, ◌≤◌, Bool, false, List, length, get_or, take, drop, unwrap_or, refl, ap, ◌∙◌, arith}
+use Rattle.std.proofs.Common.{◌≡◌, ℕ, zero, suc, ◌*◌, ◌<◌, Bool, false, List, length, take, drop, unwrap_or, refl, ap, ◌∙◌, arith}
 use Rattle.std.proofs.lemmas.List.{get_or-take, get_or-drop, length-take, length-drop}
 use Rattle.plan.specs.declared.tables.Tables.{Tables}
 use Rattle.plan.specs.Invariant.{Sound}
-use Rattle.plan.specs.Layout.{candidate_place, count_of, open_at}
+use Rattle.plan.specs.Layout.{count_of, open_at}
 use Rattle.plan.specs.Rows.{changed_one, changed, lesser, least_where, is_marked}
 
 -- the marks are those of the candidates of the entry e
