@@ -202,7 +202,7 @@ module _ {top : ℕ} {join rest : ℕ → ℕ → ℕ} (law : Lawful top join re
       let both = and_parts (is_open x e c) (is_place x e from) two.0 in
       let there = (and_parts (is_there x e c) (open_at x e c) both.0).0 in
       let low = leb-true a (largest_amount x e c from) (and_parts (leb 1 a) (leb a (largest_amount x e c from)) three.0).1 in
-      let hand = Some (record { entry = e; candidate = c; amount = a }) in
+      let hand : Option Hand = Some (record { entry = e; candidate = c; amount = a }) in
       record {
         keeps = moved_keeps join (λ v. rest v a) x e c from hand (λ t o.
             let given = body_lifted law x s is_top e c there from a t o both.1 low in

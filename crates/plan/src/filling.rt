@@ -27,7 +27,9 @@ impl Entries {
         ensures writes_them { self.new ≡ with_own self.old
             (written_from (8 * e) (λ c. slice_index row.now c) (length row.now) self.old.own) }
     {
-        self.own[8 * e..8 * e + row.len()].copy_from_slice(row);
+        for (c, &points) in row.iter().enumerate() {
+            self.own[8 * e + c] = points;
+        }
     }
 
     // The own penalties of all entries.
