@@ -138,8 +138,8 @@ module _ {c : ℕ} {join rest : ℕ → ℕ → ℕ} (law : Lawful c join rest) 
       others t o d = record {
         for_each = o.for_each;
         opens = λ i h.
-            let both : (is_there x i (get_or t i 0) ≡ true) × (open_at x i (get_or t i 0) ≡ true) = and_parts _ _ (o.opens i h) in
-            let low : get_or t i 0 < count_of x i = ltb-true _ _ (and_parts _ _ both.0).1 in
+            let both = and_parts (is_there x i (get_or t i 0)) (open_at x i (get_or t i 0)) (o.opens i h) in
+            let low : get_or t i 0 < count_of x i = ltb-true _ _ (and_parts (ltb i x.entries.number) (ltb (get_or t i 0) (count_of x i)) both.0).1 in
             let few = sound.0.2 i in
             let few_e = sound.0.2 e in
             let l = small in
