@@ -24,7 +24,8 @@ pub mod tables;
 pub mod token;
 
 // A plan on a scale. What it holds stands in plain tables, of which the invariant holds in every
-// plan.
+// plan. Each public call names all that it promises, a rule of the project, though several promise
+// some of it.
 #[derive(Drop)]
 pub struct Plan<S> {
     scale: S,

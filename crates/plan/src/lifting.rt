@@ -170,7 +170,7 @@ impl<S: Scale> Plan<S> {
     }
 
     // Joins the amount in hand to a candidate's own penalty, or to the open cells of a row at it. A
-    // refused token comes back.
+    // refused token comes back beside its refusal, since it may not be let go.
     #[tactic(auto, using(crate::proofs::Keepings::keeps_refl))]
     pub fn set_down(&mut self, token: Token, to: Place) -> Result<(), (Refusal, Token)>
         ensures answers { result ≡ set_answer self.old.tables token to }

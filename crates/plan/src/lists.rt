@@ -3,7 +3,7 @@ use crate::records::PairRecord;
 
 // The ceiling, the number of candidates of each entry, their own penalties by entry and then
 // candidate, and the points of cells.
-#[derive(Clone, Copy)]
+#[derive(Clone, Copy, Debug, PartialEq, Eq)]
 pub struct Lists<'a> {
     pub ceiling: u32,
     pub counts: &'a [usize],

@@ -10,7 +10,7 @@ pub const MOST_PAIRS: usize = 24;
 
 // The entries: how many candidates each has, and of each candidate its own penalty and whether it
 // is open.
-#[derive(Clone, Copy)]
+#[derive(Clone, Copy, Debug, PartialEq, Eq)]
 pub struct Entries {
     pub number: usize,
     pub counts: [usize; 16],
@@ -20,7 +20,7 @@ pub struct Entries {
 
 // The pairs: the two entries of each, the lower one first, and a cell for each candidate of the one
 // with each of the other.
-#[derive(Clone, Copy)]
+#[derive(Clone, Copy, Debug, PartialEq, Eq)]
 pub struct Pairs {
     pub number: usize,
     pub ends: [(usize, usize); 24],
@@ -52,7 +52,9 @@ pub struct Settled {
     pub stable: bool,
 }
 
-#[derive(Clone, Copy)]
+// All of a plan but its scale. It is plain, a rule of the project, so its own methods ask for what
+// they need of it; the invariant stands in the plan.
+#[derive(Clone, Copy, Debug, PartialEq, Eq)]
 pub struct Tables {
     pub entries: Entries,
     pub pairs: Pairs,

@@ -12,6 +12,7 @@ pub enum Reason {
 }
 
 impl Reason {
+    // As a refusal of a plan tells its number: a trait for both would be longer than the line.
     pub(crate) fn number(&self) -> u32
         ensures is_its_number { result ≡ number_of self.now }
     {
