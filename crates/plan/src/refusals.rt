@@ -26,7 +26,8 @@ impl Refusal {
     pub fn number(&self) -> u32
         ensures is_its_number { result ≡ number_of self.now }
     {
-        *self as u32
+        let refusal = *self;
+        refusal as u32
     }
 }
 
@@ -43,7 +44,8 @@ impl FillList {
     pub fn number(&self) -> u32
         ensures is_its_number { result ≡ list_number_of self.now }
     {
-        *self as u32
+        let list = *self;
+        list as u32
     }
 }
 
