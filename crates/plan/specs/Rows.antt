@@ -1,8 +1,9 @@
 -- Rows: the cells of a pair at a candidate, with the open candidates of the other entry.
-use Rattle.std.specs.Prelude.{◌≡◌, ℕ, ◌<◌, zero, suc, min, Bool, true, false, if◌then◌else◌, ◌&&◌, ◌||◌, List, Some, None, Option, ◌==◌, nat_lt, slice_index, slice_index_or, slice_set}
+use Rattle.std.specs.Prelude.{◌≡◌, ℕ, ◌<◌, zero, suc, min, Bool, true, false, if◌then◌else◌, ◌&&◌, ◌||◌, List, take, drop, Some, None, Option, ◌==◌, nat_lt, slice_index, slice_index_or, slice_set}
 use Rattle.std.specs.Option.{unwrap_or}
+use Rattle.plan.specs.declared.tables.Entries.{Entries}
 use Rattle.plan.specs.declared.tables.Tables.{Tables}
-use Rattle.plan.specs.Layout.{cell_place, count_of, open_at, first_of, second_of}
+use Rattle.plan.specs.Layout.{candidate_place, cell_place, count_of, open_at, first_of, second_of}
 
 -- what is answered for each number below n is f of it; what is answered for any number is
 abbrev pub ComputesBelow : ℕ → (ℕ → ℕ → Type 0) → (ℕ → ℕ) → Type 0
@@ -18,6 +19,10 @@ StaysBelow n Answers limit = (k answer : ℕ) → k < n → Answers k answer →
 -- the mark k is set
 abbrev pub is_marked : List Bool → ℕ → Bool
 is_marked marks k = slice_index_or marks k false
+
+-- the marks of the candidates of the entry e, from the first on
+abbrev pub marks_of : Entries → ℕ → List Bool
+marks_of x e = take (slice_index x.counts e) (drop (candidate_place e 0) x.marks)
 
 -- the numbers at the places of those k below n that pass a test become g of what they were
 abbrev pub changed_one : Bool → ℕ → (ℕ → ℕ) → List ℕ → List ℕ

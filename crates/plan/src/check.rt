@@ -19,7 +19,7 @@ use scale::ceiling::HIGHEST_CEILING;
 fn is_count(count: usize) -> bool
     ensures is_in_range { result ≡ (nat_le 1 count && nat_le count 8) }
 {
-    count >= 1 && count <= MOST_CANDIDATES
+    (1..=MOST_CANDIDATES).contains(&count)
 }
 
 // Whether there are more entries than a plan has room for.
@@ -172,7 +172,7 @@ impl Tables {
         if self.entries.number != 0 {
             return Err(FillFault::at(Refusal::AlreadyFilled, FillList::Counts, 0));
         }
-        if lists.ceiling < 1 || lists.ceiling > HIGHEST_CEILING {
+        if !(1..=HIGHEST_CEILING).contains(&lists.ceiling) {
             return Err(FillFault::at(Refusal::CeilingOutOfRange, FillList::Counts, 0));
         }
         lists.check_counts()?;

@@ -9,6 +9,7 @@ ghost use Rattle.plan.specs.Refusing.{Finds};
 ghost use Rattle.plan.specs.Weights.{held_for, weight};
 
 use crate::Plan;
+use crate::layout::candidate_place;
 use crate::refusals::Refusal;
 use scale::Scale;
 
@@ -36,7 +37,7 @@ impl<S: Scale> Plan<S> {
         ensures is_its_weight { result ≡ weight (at_ceiling S.join self.now) self.now.tables entry
             candidate }
     {
-        let own = self.tables.entries.own[8 * entry + candidate];
+        let own = self.tables.entries.own[candidate_place(entry, candidate)];
         self.join(own, self.held_for(entry, candidate))
     }
 
@@ -70,7 +71,7 @@ impl<S: Scale> Plan<S> {
             self.new.tables }
     {
         self.check_close(entry, candidate)?;
-        self.tables.entries.marks[8 * entry + candidate] = false;
+        self.tables.entries.marks[candidate_place(entry, candidate)] = false;
         Ok(())
     }
 
@@ -78,7 +79,7 @@ impl<S: Scale> Plan<S> {
     fn check_lower(&self, bound: u32) -> Result<(), Refusal>
         ensures is_the_first_refusal { Finds (lower_refusal self.now.tables bound) result }
     {
-        if bound >= 1 && bound <= self.tables.limits.bound {
+        if (1..=self.tables.limits.bound).contains(&bound) {
             Ok(())
         } else {
             Err(Refusal::BoundOutOfRange)

@@ -6,6 +6,7 @@ ghost use Rattle.plan.specs.Filling.{own_rows, with_counts, with_own, pair_place
 ghost use Rattle.plan.specs.Filling.{with_record, with_records, Writable, tables_of};
 ghost use Rattle.plan.specs.Layout.{written_from};
 
+use crate::layout::{candidate_place, cell_place};
 use crate::lists::Lists;
 use crate::records::PairRecord;
 use crate::tables::{Entries, Pairs, Tables};
@@ -28,7 +29,7 @@ impl Entries {
             (written_from (8 * e) (λ c. slice_index row.now c) (length row.now) self.old.own) }
     {
         for (c, &points) in row.iter().enumerate() {
-            self.own[8 * e + c] = points;
+            self.own[candidate_place(e, c)] = points;
         }
     }
 
@@ -86,7 +87,7 @@ impl Pairs {
         ensures writes_it { self.new ≡ with_record self.old r.now }
     {
         let p = self.room_for(r.entry, r.other);
-        self.cells[64 * p + 8 * r.candidate + r.choice] = r.points;
+        self.cells[cell_place(p, r.candidate, r.choice)] = r.points;
     }
 
     // All records, one after another.

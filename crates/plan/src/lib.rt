@@ -9,6 +9,7 @@ pub mod closing;
 pub mod cost;
 pub mod fill;
 mod filling;
+mod layout;
 pub mod lifting;
 mod lists;
 pub mod make;

@@ -10,6 +10,7 @@ ghost use Rattle.plan.specs.Refusing.{Finds};
 ghost use Rattle.plan.specs.Rows.{Computes};
 
 use crate::Plan;
+use crate::layout::candidate_place;
 use crate::place::Place;
 use crate::refusals::Refusal;
 use crate::tables::{Hand, Tables};
@@ -33,11 +34,37 @@ impl Tables {
     {
         match place {
             Place::OwnPenalty => {
-                let at = 8 * entry + candidate;
+                let at = candidate_place(entry, candidate);
                 self.entries.own[at] = change(self.entries.own[at]);
             }
             Place::Row(pair) => self.change_row(entry, candidate, pair, change),
         }
+    }
+
+    // Takes an amount off each number of its candidate at a place.
+    pub(crate) fn take_off<S: Scale>(&mut self, scale: &S, place: Place, moved: Hand)
+        requires can { CanAdjust self.old moved.entry moved.candidate place }
+        ensures takes_it_off { self.new
+            ≡ adjusted (λ v. S.rest scale.now self.old.limits.ceiling v moved.amount)
+            self.old moved.entry moved.candidate place }
+    {
+        let ceiling = self.limits.ceiling;
+        self.adjust(moved.entry, moved.candidate, place, |points| {
+            scale.rest(ceiling, points, moved.amount)
+        });
+    }
+
+    // Joins an amount to each number of its candidate at a place.
+    pub(crate) fn join_to<S: Scale>(&mut self, scale: &S, place: Place, moved: Hand)
+        requires can { CanAdjust self.old moved.entry moved.candidate place }
+        ensures joins_it { self.new
+            ≡ adjusted (λ v. S.join scale.now self.old.limits.ceiling v moved.amount)
+            self.old moved.entry moved.candidate place }
+    {
+        let ceiling = self.limits.ceiling;
+        self.adjust(moved.entry, moved.candidate, place, |points| {
+            scale.join(ceiling, points, moved.amount)
+        });
     }
 
     // Takes an amount off each number drawn on, and puts it in hand.
@@ -46,24 +73,18 @@ impl Tables {
         ensures lifts_it { self.new ≡ lifted (S.rest scale.now self.old.limits.ceiling) self.old
             from held.entry held.candidate held.amount }
     {
-        let ceiling = self.limits.ceiling;
-        self.adjust(held.entry, held.candidate, from, |points| {
-            scale.rest(ceiling, points, held.amount)
-        });
+        self.take_off(scale, from, held);
         self.hand = Some(held);
     }
 
     // Joins an amount to each number at a place, and empties the hand.
     fn put_down<S: Scale>(&mut self, scale: &S, held: Hand, to: Place)
         requires can { CanAdjust self.old held.entry held.candidate to }
-        ensures sets_it_down { self.new ≡ set_down_in (S.join scale.now self.old.limits.ceiling)
-            self.old
+        ensures sets_it_down { self.new
+            ≡ set_down_in (S.join scale.now self.old.limits.ceiling) self.old
             held.entry held.candidate held.amount to }
     {
-        let ceiling = self.limits.ceiling;
-        self.adjust(held.entry, held.candidate, to, |points| {
-            scale.join(ceiling, points, held.amount)
-        });
+        self.join_to(scale, to, held);
         self.hand = None;
     }
 }
@@ -87,7 +108,7 @@ impl<S> Plan<S> {
             place }
     {
         match place {
-            Place::OwnPenalty => self.tables.entries.own[8 * entry + candidate],
+            Place::OwnPenalty => self.tables.entries.own[candidate_place(entry, candidate)],
             Place::Row(pair) => self.row_least(entry, candidate, pair),
         }
     }
@@ -105,9 +126,8 @@ impl<S> Plan<S> {
         {
             return Err(Refusal::Absent);
         }
-        if wanted.amount < 1
-            || wanted.amount > self.largest_amount(wanted.entry, wanted.candidate, from)
-        {
+        let largest = self.largest_amount(wanted.entry, wanted.candidate, from);
+        if !(1..=largest).contains(&wanted.amount) {
             return Err(Refusal::AmountOutOfRange);
         }
         Ok(())

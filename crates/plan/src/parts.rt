@@ -7,6 +7,7 @@ ghost use Rattle.plan.specs.Rows.{ComputesBelow};
 ghost use Rattle.plan.specs.Tunings.{Tuning, is_open_tuning};
 
 use crate::Plan;
+use crate::layout::{candidate_place, cell_place};
 use arrayvec::ArrayVec;
 
 // Room for the floor, the hand, 16 own penalties and 24 cells.
@@ -15,7 +16,8 @@ const MOST_PARTS: usize = 42;
 // What a tuning pays; a list that needs no memory of its own.
 pub(crate) type Parts = ArrayVec<u32, MOST_PARTS>;
 
-// Behind the parts so far, one for each number below n.
+// Behind the parts so far, one for each number below n. The kit's `extend` would be no plainer: it
+// answers want of room, of which there is none.
 fn push_each<F: Fn(usize) -> u32>(parts: &mut Parts, n: usize, part: F)
     requires room { array_vec_len parts.old + n ≤ 42 }
     requires reads { (k : ℕ) → k < n → F.pre part k }
@@ -61,7 +63,7 @@ impl<S> Plan<S> {
         requires there { e < self.now.tables.entries.number }
         ensures is_the_part { result ≡ own_part self.now.tables tuning.now e }
     {
-        self.tables.entries.own[8 * e + tuning[e]]
+        self.tables.entries.own[candidate_place(e, tuning[e])]
     }
 
     // The tuning's cell of a pair.
@@ -71,7 +73,7 @@ impl<S> Plan<S> {
         ensures is_the_part { result ≡ cell_part self.now.tables tuning.now p }
     {
         let (first, second) = self.tables.pairs.ends[p];
-        self.tables.pairs.cells[64 * p + 8 * tuning[first] + tuning[second]]
+        self.tables.pairs.cells[cell_place(p, tuning[first], tuning[second])]
     }
 
     // All that a tuning pays.

@@ -5,6 +5,7 @@ ghost use Rattle.plan.specs.Layout.{candidate_place, count_of, own_of, open_at, 
 ghost use Rattle.plan.specs.Layout.{second_of, cell_of, is_there, is_cell};
 
 use crate::Plan;
+use crate::layout::{candidate_place, cell_place};
 use crate::tables::{Hand, Tables};
 
 impl<S> Plan<S> {
@@ -62,7 +63,7 @@ impl<S> Plan<S> {
             (candidate_place entry candidate) else None) }
         ensures within { IfSome result (λ p. p < 128) }
     {
-        (candidate < self.candidates(entry)?).then(|| 8 * entry + candidate)
+        (candidate < self.candidates(entry)?).then(|| candidate_place(entry, candidate))
     }
 
     // The own penalty of a candidate.
@@ -88,7 +89,7 @@ impl<S> Plan<S> {
     {
         let (first, second) = self.pair(pair)?;
         let is_there = candidate < self.candidates(first)? && choice < self.candidates(second)?;
-        is_there.then(|| self.tables.pairs.cells[64 * pair + 8 * candidate + choice])
+        is_there.then(|| self.tables.pairs.cells[cell_place(pair, candidate, choice)])
     }
 
     // What is in hand.

@@ -3,12 +3,14 @@ ghost use Rattle.std.specs.Prelude.{◌≡◌, ℕ, ◌<◌, true, length, slice
 ghost use Rattle.plan.specs.Invariant.{Sound};
 ghost use Rattle.plan.specs.Lifting.{with_cell_list};
 ghost use Rattle.plan.specs.Rows.{Computes, ComputesBelow, StaysBelow, is_marked, changed};
-ghost use Rattle.plan.specs.Rows.{least_where, is_at, other_of, row_place, row_least, row_changed};
+ghost use Rattle.plan.specs.Rows.{least_where, is_at, is_first, other_of, row_place, row_least, row_changed};
 
 use crate::Plan;
+use crate::layout::cell_place;
 use crate::tables::Tables;
 
-// The least of the numbers of the marked, 0 where none is marked.
+// The least of the numbers of the marked, 0 where none is marked. A chain by `min` would be no
+// plainer: its closure has to be callable at every k.
 pub(crate) fn least_marked<F: Fn(usize) -> u32>(marks: &[bool], number: F) -> u32
     requires reads { (k : ℕ) → k < length marks.now → F.pre number k }
     ensures is_the_least { (f : ℕ → ℕ) → ComputesBelow (length marks.now) (F.post number) f
@@ -53,20 +55,24 @@ fn row_place(ahead: bool, p: usize, c: usize, k: usize) -> usize
     ensures within { result < 1536 }
 {
     if ahead {
-        64 * p + 8 * c + k
+        cell_place(p, c, k)
     } else {
-        64 * p + 8 * k + c
+        cell_place(p, k, c)
     }
 }
 
 impl Tables {
-    // The other entry of a pair.
-    fn other_of(&self, entry: usize, pair: usize) -> usize
+    // Whether an entry of a pair is its first, and the other entry.
+    fn sides(&self, entry: usize, pair: usize) -> (bool, usize)
         requires there { pair < 24 }
-        ensures is_the_other { result ≡ other_of self.now entry pair }
+        ensures are_they { result ≡ (is_first self.now entry pair, other_of self.now entry pair) }
     {
         let (first, second) = self.pairs.ends[pair];
-        if first == entry { second } else { first }
+        if first == entry {
+            (true, second)
+        } else {
+            (false, first)
+        }
     }
 
     // Makes of each open cell of the row at a candidate of an entry what `change` makes of it.
@@ -84,13 +90,10 @@ impl Tables {
         ensures changes_it { (by : ℕ → ℕ) → Computes (F.post change) by
             → self.new ≡ with_cell_list self.old (row_changed by self.old entry candidate pair) }
     {
-        let ahead = self.pairs.ends[pair].0 == entry;
-        let other = self.other_of(entry, pair);
-        let marks = self.entries.marks;
-        let start = 8 * other;
-        let end = start + self.entries.counts[other];
+        let (ahead, other) = self.sides(entry, pair);
+        let entries = self.entries;
         change_marked(
-            &marks[start..end],
+            entries.marks_of(other),
             &mut self.pairs.cells,
             |k| row_place(ahead, pair, candidate, k),
             change,
@@ -113,13 +116,9 @@ impl<S> Plan<S> {
         requires few { candidate < 8 }
         ensures is_the_least { result ≡ row_least self.now.tables entry candidate pair }
     {
-        let ahead = self.tables.pairs.ends[pair].0 == entry;
-        let other = self.tables.other_of(entry, pair);
-        let start = 8 * other;
-        let end = start + self.tables.entries.counts[other];
-        least_marked(
-            &self.tables.entries.marks[start..end],
-            |k| self.tables.pairs.cells[row_place(ahead, pair, candidate, k)],
-        )
+        let (ahead, other) = self.tables.sides(entry, pair);
+        least_marked(self.tables.entries.marks_of(other), |k| {
+            self.tables.pairs.cells[row_place(ahead, pair, candidate, k)]
+        })
     }
 }

@@ -13,32 +13,22 @@ ghost use Rattle.plan.specs.Sweeps.{sweep as swept_once};
 ghost use Rattle.plan.specs.declared.place.Place.TheVariants.{Row};
 
 use crate::Plan;
+use crate::layout::candidate_place;
 use crate::place::Place;
 use crate::rows::{change_marked, least_marked};
-use crate::tables::Tables;
+use crate::tables::{Hand, Tables};
 use scale::Scale;
 
 impl Tables {
     // Takes an amount off each number of a row and joins it to the own penalty of its candidate.
-    fn move_to_own<S: Scale>(
-        &mut self,
-        scale: &S,
-        amount: u32,
-        entry: usize,
-        pair: usize,
-        candidate: usize,
-    )
-        requires can { CanAdjust self.old entry candidate (Row pair) }
+    fn move_to_own<S: Scale>(&mut self, scale: &S, moved: Hand, pair: usize)
+        requires can { CanAdjust self.old moved.entry moved.candidate (Row pair) }
         ensures moves_it { self.new ≡ moved_to_own (S.join scale.now self.old.limits.ceiling)
-            (S.rest scale.now self.old.limits.ceiling) amount entry pair candidate self.old }
+            (S.rest scale.now self.old.limits.ceiling)
+            moved.amount moved.entry pair moved.candidate self.old }
     {
-        let ceiling = self.limits.ceiling;
-        self.adjust(entry, candidate, Place::Row(pair), |points| {
-            scale.rest(ceiling, points, amount)
-        });
-        self.adjust(entry, candidate, Place::OwnPenalty, |points| {
-            scale.join(ceiling, points, amount)
-        });
+        self.take_off(scale, Place::Row(pair), moved);
+        self.join_to(scale, Place::OwnPenalty, moved);
     }
 
     // Makes of each own penalty of the open candidates of an entry what `change` makes of it.
@@ -49,13 +39,11 @@ impl Tables {
         ensures changes_them { (by : ℕ → ℕ) → Computes (F.post change) by
             → self.new ≡ with_own_list self.old (own_changed by self.old entry) }
     {
-        let marks = self.entries.marks;
-        let start = 8 * entry;
-        let end = start + self.entries.counts[entry];
+        let entries = self.entries;
         change_marked(
-            &marks[start..end],
+            entries.marks_of(entry),
             &mut self.entries.own,
-            |c| start + c,
+            |c| candidate_place(entry, c),
             change,
         );
     }
@@ -79,17 +67,16 @@ impl<S> Plan<S> {
         requires there { entry < self.now.tables.entries.number }
         ensures is_the_least { result ≡ own_least self.now.tables entry }
     {
-        let start = 8 * entry;
-        let end = start + self.tables.entries.counts[entry];
-        least_marked(
-            &self.tables.entries.marks[start..end],
-            |c| self.tables.entries.own[start + c],
-        )
+        least_marked(self.tables.entries.marks_of(entry), |c| {
+            self.tables.entries.own[candidate_place(entry, c)]
+        })
     }
 }
 
 // The loops count candidates, entries and pairs, which have no other name than their number. Each
-// step changes the plan, so no list of them is lent: an iterator would be no plainer.
+// step changes the plan, so no list of them is lent, and asks for what the plan then holds: neither
+// an iterator nor one function for all five, with a closure for the step, would be plainer. Each
+// step promises the frame, on which the next one stands.
 impl<S: Scale> Plan<S> {
     // Moves the least of a row to the own penalty, if the candidate is open.
     fn row_to_own(&mut self, entry: usize, pair: usize, candidate: usize)
@@ -100,10 +87,13 @@ impl<S: Scale> Plan<S> {
             entry pair candidate self.old.tables }
         ensures keeps_its_frame { KeepsFrame self.old self.new }
     {
-        if self.tables.entries.marks[8 * entry + candidate] {
-            let least = self.row_least(entry, candidate, pair);
-            self.tables
-                .move_to_own(&self.scale, least, entry, pair, candidate);
+        if self.tables.entries.marks[candidate_place(entry, candidate)] {
+            let least = Hand {
+                entry,
+                candidate,
+                amount: self.row_least(entry, candidate, pair),
+            };
+            self.tables.move_to_own(&self.scale, least, pair);
         }
     }
 
@@ -178,6 +168,7 @@ impl<S: Scale> Plan<S> {
         ensures keeps_its_frame { KeepsFrame self.old self.new }
     {
         for candidate in 0..self.tables.entries.counts[e] {
+            // One that is refused stays open, and the sweep goes on.
             let _ = self.close(e, candidate);
         }
     }

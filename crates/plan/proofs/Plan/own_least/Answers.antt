@@ -1,6 +1,6 @@
 use Rattle.std.proofs.Common.{rules, ◌∙◌, arith}
 use Rattle.plan.specs.Layout.{own_of}
-use Rattle.plan.proofs.RowSteps.{marks_of, least_of}
+use Rattle.plan.proofs.RowSteps.{least_of}
 use Rattle.plan.proofs.Plan.own_least.Goals as goal
 
 pub returns : goal.returns
@@ -11,5 +11,5 @@ returns g c =
     record {
       is_the_least =
           c.least_marked.ensures.is_the_least (own_of x e) (λ k answer h is. search rules)
-          ∙ least_of x e _ (marks_of x s e _ (omega (arith, s.0.0)) (omega arith)) (own_of x e);
+          ∙ least_of x s e (omega (arith, s.0.0)) _ c.marks_of.ensures.are_its_marks (own_of x e);
     }

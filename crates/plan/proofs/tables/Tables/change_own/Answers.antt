@@ -1,7 +1,7 @@
 use Rattle.std.proofs.Common.{rules, ap, ◌∙◌, arith}
 use Rattle.plan.specs.Layout.{candidate_place}
 use Rattle.plan.specs.Lifting.{with_own_list}
-use Rattle.plan.proofs.RowSteps.{marks_of, changed_of}
+use Rattle.plan.proofs.RowSteps.{changed_of}
 use Rattle.plan.proofs.tables.Tables.change_own.Goals as goal
 
 pub returns : goal.returns
@@ -13,5 +13,5 @@ returns g c =
       changes_them = λ by computes.
           ap (with_own_list x)
           (c.change_marked.ensures.changes_them (candidate_place e) by (λ k answer h is. search rules) computes
-          ∙ changed_of x e _ (marks_of x s e _ (omega (arith, s.0.0)) (omega arith)) (candidate_place e) by x.entries.own);
+          ∙ changed_of x s e (omega (arith, s.0.0)) _ c.marks_of.ensures.are_its_marks (candidate_place e) by x.entries.own);
     }
