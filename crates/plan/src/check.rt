@@ -15,7 +15,8 @@ use crate::tables::{MOST_CANDIDATES, MOST_ENTRIES, MOST_PAIRS, Tables};
 use scale::ceiling::HIGHEST_CEILING;
 
 // Whether a count is from 1 to 8. Here and below each limit has a test of its own, in which its
-// constant meets the number that the contract names.
+// constant meets the number that the contract names; a generic test of a limit would be no plainer
+// than `>`.
 fn is_count(count: usize) -> bool
     ensures is_in_range { result ≡ (nat_le 1 count && nat_le count 8) }
 {
@@ -57,7 +58,8 @@ fn same_cell(s: &PairRecord, r: &PairRecord) -> bool
 }
 
 impl Lists<'_> {
-    // There are 1 to 16 counts, each from 1 to 8.
+    // There are 1 to 16 counts, each from 1 to 8. A `position` of the first fault would be no shorter,
+    // here and in the next check.
     fn check_counts(&self) -> Result<(), FillFault>
         ensures is_the_first_fault { Finds (counts_fault self.now.counts.now) result }
     {

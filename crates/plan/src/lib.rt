@@ -27,7 +27,7 @@ pub mod token;
 // A plan on a scale. What it holds stands in plain tables, of which the invariant holds in every
 // plan. Each public call names all that it promises, a rule of the project, though several promise
 // some of it.
-#[derive(Drop)]
+#[derive(Debug, Drop)]
 pub struct Plan<S> {
     scale: S,
     tables: tables::Tables,

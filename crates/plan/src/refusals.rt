@@ -40,7 +40,8 @@ pub enum FillList {
 }
 
 impl FillList {
-    // The twin of a refusal's number: a trait for both would be longer than the line that it saves.
+    // The twin of a refusal's number: a trait for both would be longer than the two lines that it
+    // saves.
     pub fn number(&self) -> u32
         ensures is_its_number { result ≡ list_number_of self.now }
     {

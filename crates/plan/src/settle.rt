@@ -28,7 +28,7 @@ fn check_settle(sweeps: u32) -> Result<(), Refusal>
 
 impl Tables {
     // Whether no number and no mark that a sweep may change differs from what it was. The derived
-    // equality would compare what stays, too.
+    // equality would compare what stays, too, and would be this answer only by a further proof.
     fn is_unchanged(&self, before: &Tables) -> bool
         ensures is_so { result ≡ unchanged before.now self.now }
     {

@@ -15,7 +15,7 @@ use std::process::Abort;
 use std::test::Fail;
 
 // How many lifts, lowerings and closings were accepted, and how many sweeps settlings made.
-#[derive(Clone, Copy, Default)]
+#[derive(Clone, Copy, Debug, Default, PartialEq, Eq)]
 struct Tally {
     lifts: u32,
     lowerings: u32,
@@ -41,7 +41,7 @@ fn place(dice: &mut Dice) -> Place {
 }
 
 // A plan in play, with the lists that it was filled from and the dice that choose its calls.
-#[derive(Drop)]
+#[derive(Debug, Drop)]
 struct Game<S> {
     scale: S,
     lists: Lists,

@@ -1,7 +1,7 @@
 // A generator of numbers: the same for the same start.
 ghost use Rattle.std.specs.Prelude.{◌≤◌};
 
-#[derive(Clone, Copy)]
+#[derive(Clone, Copy, Debug, PartialEq, Eq)]
 pub(crate) struct Dice {
     state: u64,
 }

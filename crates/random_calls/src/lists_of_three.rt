@@ -6,7 +6,7 @@ use plan::records::PairRecord;
 use scale::Scale;
 use std::alloc::{AllocError, Global};
 
-#[derive(Drop)]
+#[derive(Debug, Drop)]
 pub(crate) struct Lists {
     pub ceiling: u32,
     pub counts: [usize; 3],
@@ -24,9 +24,9 @@ impl Lists {
             pairs: Vec::new(heap),
         };
         lists.push_entries(dice)?;
-        lists.push_pair(dice, 0, 1)?;
-        lists.push_pair(dice, 1, 2)?;
-        lists.push_pair(dice, 0, 2)?;
+        for (entry, other) in [(0, 1), (1, 2), (0, 2)] {
+            lists.push_pair(dice, entry, other)?;
+        }
         Ok(lists)
     }
 

@@ -1,5 +1,6 @@
 // What is written for a plan that the program has as data.
 ghost use Rattle.std.specs.Prelude.{◌≡◌, ◌++◌, string_bytes, OnOk};
+ghost use Rattle.plan.specs.Plans.{at_ceiling};
 ghost use Rattle.report.specs.PlanReports.{paid_by, named_tuning, paid_numbers, paid_line};
 ghost use Rattle.report.specs.PlanReports.{tuning_lines, fault_line, plan_lines, plan_report};
 
@@ -23,7 +24,7 @@ pub struct Paid {
 
 fn pay<S: Scale>(plan: &Plan<S>, a: usize, b: usize) -> Option<Paid>
     ensures is_what_it_pays { result
-        ≡ paid_by (S.join plan.now.scale plan.now.tables.limits.ceiling) plan.now.tables a b }
+        ≡ paid_by (at_ceiling S.join plan.now) plan.now.tables a b }
 {
     Some(Paid {
         floor: plan.floor(),
@@ -34,7 +35,8 @@ fn pay<S: Scale>(plan: &Plan<S>, a: usize, b: usize) -> Option<Paid>
     })
 }
 
-// The text and the name stay parameters: a struct that borrowed both would be no plainer to call.
+// The text and the name stay parameters: `Lines { out, name }.push_paid(..)` would be no shorter.
+// What a line says is a proved fact, of which a `fmt` of the values would promise nothing.
 fn push_tuning_name(out: &mut String, name: &str, a: usize, b: usize) -> Result<(), AllocError>
     ensures names_it { OnOk result (string_bytes out.new
         ≡ string_bytes out.old ++ named_tuning name.now a b) }
@@ -75,7 +77,7 @@ fn push_tuning<S: Scale>(
 ) -> Result<(), AllocError>
     ensures adds_its_line { OnOk result (string_bytes out.new
         ≡ string_bytes out.old ++ paid_line name.now a b
-        (paid_by (S.join plan.now.scale plan.now.tables.limits.ceiling) plan.now.tables a b)) }
+        (paid_by (at_ceiling S.join plan.now) plan.now.tables a b)) }
 {
     match pay(plan, a, b) {
         Some(paid) => {
@@ -89,7 +91,7 @@ fn push_tuning<S: Scale>(
 // A line for each of the four tunings.
 fn push_tunings<S: Scale>(out: &mut String, name: &str, plan: &Plan<S>) -> Result<(), AllocError>
     ensures adds_the_lines { OnOk result (string_bytes out.new
-        ≡ tuning_lines name.now (S.join plan.now.scale plan.now.tables.limits.ceiling)
+        ≡ tuning_lines name.now (at_ceiling S.join plan.now)
         plan.now.tables (string_bytes out.old)) }
 {
     for (a, b) in [(0, 0), (0, 1), (1, 0), (1, 1)] {

@@ -28,7 +28,8 @@ fn ranged_value(
     }
 }
 
-// The penalties of the lines from line 2 on, into room that was made for them.
+// The penalties of the lines from line 2 on, into room that was made for them; the ceiling again,
+// as `read` answers it, so that one definition says both answers.
 fn read_penalties(ceiling: u32, lines: &[u8], penalties: &mut Vec<u32>) -> Result<u32, Refusal>
     requires nothing_yet { penalties.old.items ≡ [] }
     requires room { length lines.now ≤ vec_capacity penalties.old }

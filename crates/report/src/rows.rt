@@ -9,7 +9,8 @@ use scale::worst::WorstScale;
 use std::alloc::{AllocError, Global};
 
 // A line for one penalty.
-// The text and the name stay parameters: a struct that borrowed both would be no plainer to call.
+// The text and the name stay parameters: `Lines { out, name }.push(..)` would be no shorter. What
+// the line says is a proved fact, of which a `fmt` of the values would promise nothing.
 fn push_running_line(
     out: &mut String,
     name: &str,
