@@ -58,8 +58,8 @@ fn same_cell(s: &PairRecord, r: &PairRecord) -> bool
 }
 
 impl Lists<'_> {
-    // There are 1 to 16 counts, each from 1 to 8. A `position` of the first fault would be no shorter,
-    // here and in the next check.
+    // There are 1 to 16 counts, each from 1 to 8. A `position` of the first fault would be no
+    // shorter, here and in the next check.
     fn check_counts(&self) -> Result<(), FillFault>
         ensures is_the_first_fault { Finds (counts_fault self.now.counts.now) result }
     {

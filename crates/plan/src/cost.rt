@@ -37,7 +37,8 @@ impl<S: Scale> Plan<S> {
     // All that an open tuning pays, joined.
     fn paid(&self, tuning: &[usize]) -> u32
         requires open_tuning { OpenTuning self.now.tables tuning.now }
-        ensures is_its_cost { result ≡ cost (at_ceiling S.join self.now) self.now.tables tuning.now }
+        ensures is_its_cost { result
+            ≡ cost (at_ceiling S.join self.now) self.now.tables tuning.now }
         ensures capped_sum_on_the_sum_scale { S.join self.now.scale ≡ clamped sum_join
             → result ≡ min self.now.tables.limits.ceiling (sum (parts self.now.tables tuning.now)) }
         ensures largest_on_the_worst_scale { S.join self.now.scale ≡ clamped worst_join

@@ -12,8 +12,8 @@ use crate::records::PairRecord;
 use crate::tables::{Entries, Pairs, Tables};
 
 impl Entries {
-    // The counts, from the first place on. The bounds here and below are those of plain arrays, which
-    // a rule of the project asks for.
+    // The counts, from the first place on. The bounds here and below are those of plain arrays,
+    // which a rule of the project asks for.
     fn write_counts(&mut self, counts: &[usize])
         requires few { length counts.now ≤ 16 }
         ensures writes_them { self.new ≡ with_counts self.old

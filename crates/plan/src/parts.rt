@@ -31,8 +31,8 @@ fn push_each<F: Fn(usize) -> u32>(parts: &mut Parts, n: usize, part: F)
 }
 
 impl<S> Plan<S> {
-    // Whether a list names an open candidate for each entry. As an `all`, it would need a lemma of its
-    // own about what an `all` over numbered items answers.
+    // Whether a list names an open candidate for each entry. As an `all`, it would need a lemma of
+    // its own about what an `all` over numbered items answers.
     pub(crate) fn is_open_tuning(&self, tuning: &[usize]) -> bool
         ensures is_an_open_tuning { result ≡ is_open_tuning self.now.tables tuning.now }
     {
@@ -47,8 +47,8 @@ impl<S> Plan<S> {
         true
     }
 
-    // Each part names what it asks of the tuning: a type for tunings of a plan would hold the plan as
-    // well, and be longer than the clauses that it saves.
+    // Each part names what it asks of the tuning: a type for tunings of a plan would hold the plan
+    // as well, and be longer than the clauses that it saves.
     //
     // The amount in hand, where it is for a candidate of the tuning.
     fn hand_part(&self, tuning: &[usize]) -> u32

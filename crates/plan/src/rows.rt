@@ -3,7 +3,8 @@ ghost use Rattle.std.specs.Prelude.{◌≡◌, ℕ, ◌<◌, true, length, slice
 ghost use Rattle.plan.specs.Invariant.{Sound};
 ghost use Rattle.plan.specs.Lifting.{with_cell_list};
 ghost use Rattle.plan.specs.Rows.{Computes, ComputesBelow, StaysBelow, is_marked, changed};
-ghost use Rattle.plan.specs.Rows.{least_where, is_at, is_first, other_of, row_place, row_least, row_changed};
+ghost use Rattle.plan.specs.Rows.{least_where, is_at, is_first, other_of, row_place, row_least};
+ghost use Rattle.plan.specs.Rows.{row_changed};
 
 use crate::Plan;
 use crate::layout::cell_place;
