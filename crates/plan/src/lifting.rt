@@ -54,7 +54,8 @@ impl Tables {
         });
     }
 
-    // Joins an amount to each number of its candidate at a place.
+    // Joins an amount to each number of its candidate at a place. Like its opposite it is one call
+    // of `adjust`, which has the change as a closure.
     pub(crate) fn join_to<S: Scale>(&mut self, scale: &S, place: Place, moved: Hand)
         requires can { CanAdjust self.old moved.entry moved.candidate place }
         ensures joins_it { self.new

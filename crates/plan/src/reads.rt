@@ -8,6 +8,7 @@ use crate::Plan;
 use crate::layout::{candidate_place, cell_place};
 use crate::tables::{Hand, Tables};
 
+// Readers whose bodies look alike read different fields, each a line.
 impl<S> Plan<S> {
     // The number of entries.
     pub fn entries(&self) -> usize
