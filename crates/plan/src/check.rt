@@ -140,6 +140,7 @@ impl Lists<'_> {
         'records: {
             for (i, r) in self.records.iter().enumerate() {
                 let fault = move |refusal| FillFault::at(refusal, FillList::Pairs, i);
+                // `map_err(fault)?` was tried: the proof did not find which refusal it then is.
                 if let Err(refusal) = self.check_alone(r) {
                     break 'records Err(fault(refusal));
                 }

@@ -26,7 +26,7 @@ pub mod token;
 
 // A plan on a scale. What it holds stands in plain tables, of which the invariant holds in every
 // plan. Each public call names all that it promises, a rule of the project, though several promise
-// some of it.
+// some of it. Nothing compares plans, so it derives no equality.
 #[derive(Debug, Drop)]
 pub struct Plan<S> {
     scale: S,

@@ -17,7 +17,8 @@ const MOST_PARTS: usize = 42;
 pub(crate) type Parts = ArrayVec<u32, MOST_PARTS>;
 
 // Behind the parts so far, one for each number below n. The kit's `extend` would be no plainer: it
-// answers want of room, of which there is none.
+// answers want of room, of which there is none. A part has no other name than its number, so the
+// numbers are counted.
 fn push_each<F: Fn(usize) -> u32>(parts: &mut Parts, n: usize, part: F)
     requires room { array_vec_len parts.old + n ≤ 42 }
     requires reads { (k : ℕ) → k < n → F.pre part k }

@@ -27,7 +27,8 @@ pub(crate) fn least_marked<F: Fn(usize) -> u32>(marks: &[bool], number: F) -> u3
     least.unwrap_or(0)
 }
 
-// Makes of each number at the place of a marked one what `change` makes of it.
+// Makes of each number at the place of a marked one what `change` makes of it. That `change` can be
+// called with any number, here and where it is handed on, has no shorter form.
 pub(crate) fn change_marked<P: Fn(usize) -> usize, F: Fn(u32) -> u32>(
     marks: &[bool],
     numbers: &mut [u32],

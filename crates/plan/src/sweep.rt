@@ -76,7 +76,8 @@ impl<S> Plan<S> {
 // The loops count candidates, entries and pairs, which have no other name than their number. Each
 // step changes the plan, so no list of them is lent, and asks for what the plan then holds: neither
 // an iterator nor one function for all five, with a closure for the step, would be plainer. Each
-// step promises the frame, on which the next one stands.
+// step promises the frame, on which the next one stands. Of entry, pair and candidate no two go
+// together in all of them.
 impl<S: Scale> Plan<S> {
     // Moves the least of a row to the own penalty, if the candidate is open.
     fn row_to_own(&mut self, entry: usize, pair: usize, candidate: usize)

@@ -41,6 +41,7 @@ fn place(dice: &mut Dice) -> Place {
 }
 
 // A plan in play, with the lists that it was filled from and the dice that choose its calls.
+// Nothing compares games, nor their lists.
 #[derive(Debug, Drop)]
 struct Game<S> {
     scale: S,

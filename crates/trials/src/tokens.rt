@@ -21,6 +21,7 @@ fn set_to_own<S: Scale>(plan: &mut Plan<S>, token: Token)
 }
 
 // Moves an amount to a place, and if that is refused to the own penalty; whether the place took it.
+// The numbers stay parameters: they are those of `lift`, in its order.
 pub(crate) fn moved<S: Scale>(
     plan: &mut Plan<S>,
     from: Place,
