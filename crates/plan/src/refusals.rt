@@ -26,7 +26,8 @@ impl Refusal {
     pub fn number(&self) -> u32
         ensures is_its_number { result ≡ number_of self.now }
     {
-        *self as u32
+        let refusal = *self;
+        refusal as u32
     }
 }
 
@@ -39,11 +40,13 @@ pub enum FillList {
 }
 
 impl FillList {
-    // The twin of a refusal's number: a trait for both would be longer than the line that it saves.
+    // The twin of a refusal's number: a trait for both would be longer than the two lines that it
+    // saves.
     pub fn number(&self) -> u32
         ensures is_its_number { result ≡ list_number_of self.now }
     {
-        *self as u32
+        let list = *self;
+        list as u32
     }
 }
 
