@@ -1,5 +1,5 @@
 // What is written for a plan that the program has as data.
-ghost use Rattle.std.specs.Prelude.{◌≡◌, ◌++◌, Ok, Err, string_bytes, IfOk, MatchResult, OnOk};
+ghost use Rattle.std.specs.Prelude.{◌≡◌, ◌≤◌, ◌++◌, Ok, Err, string_bytes, IfOk, MatchResult, OnOk};
 ghost use Rattle.report.specs.PlanReports.{paid_by, named_tuning, paid_numbers, paid_line};
 ghost use Rattle.report.specs.PlanReports.{tuning_lines, fault_line, plan_lines, plan_report};
 ghost use Rattle.report.specs.PlanReports.{sample_answer, sample_after};
@@ -106,6 +106,7 @@ pub(crate) fn filled_plan<S: Scale + Drop>(scale: S, ceiling: u32) -> Result<Pla
         (λ fault. Err fault ≡ sample_answer ceiling) }
     ensures is_filled { IfOk result (λ plan. plan.tables ≡ sample_after ceiling) }
     ensures is_on_the_scale { IfOk result (λ plan. plan.scale ≡ scale) }
+    ensures its_bound_is_at_least_four { IfOk result (λ plan. 4 ≤ plan.tables.limits.bound) }
 {
     let pairs = [PairRecord {
         entry: 0,

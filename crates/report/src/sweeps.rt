@@ -1,5 +1,5 @@
 // What is written for the plan while it is settled, sweep by sweep.
-ghost use Rattle.std.specs.Prelude.{◌≡◌, ◌++◌, string_bytes, OnOk};
+ghost use Rattle.std.specs.Prelude.{◌≡◌, ◌≤◌, ◌++◌, string_bytes, IfOk, OnOk};
 ghost use Rattle.plan.specs.Settling.{unchanged};
 ghost use Rattle.report.specs.SweepReports.{candidate_line, candidate_lines, swept_tables};
 ghost use Rattle.report.specs.SweepReports.{sweep_lines, settled_lines, settling_lines};
@@ -59,18 +59,25 @@ fn push_candidates<S>(
     Ok(())
 }
 
-// One sweep; whether it changed nothing.
-fn sweep<S: Scale>(plan: &mut Plan<S>) -> bool
-    ensures says_whether_it_is_stable { result ≡ unchanged plan.old.tables plan.new.tables }
+// One sweep, and then the lines; whether it changed nothing.
+fn push_sweep<S: Scale>(
+    out: &mut String,
+    name: &str,
+    made: u32,
+    plan: &mut Plan<S>,
+) -> Result<bool, AllocError>
+    ensures adds_the_lines { OnOk result (string_bytes out.new
+        ≡ candidate_lines name.now made plan.new.tables (string_bytes out.old)) }
+    ensures says_whether_it_is_stable { IfOk result (λ is_stable. is_stable
+        ≡ unchanged plan.old.tables plan.new.tables) }
     ensures sweeps { plan.new.tables
         ≡ swept_tables (S.join plan.old.scale) (S.rest plan.old.scale) plan.old.tables }
     ensures keeps_its_scale { plan.new.scale ≡ plan.old.scale }
 {
-    // Proved: one sweep is not too many, so the call is not refused.
-    match plan.settle(1) {
-        Ok(settled) => settled.stable,
-        Err(_) => unreachable!(),
-    }
+    // Proved to be accepted, since one sweep is not too many.
+    let settled = plan.settle(1).unwrap();
+    push_candidates(out, name, made, plan)?;
+    Ok(settled.stable)
 }
 
 // Up to a number of sweeps, until one changes nothing, with the lines after each.
@@ -85,9 +92,7 @@ fn push_sweeps<S: Scale>(
         plan.old.tables (string_bytes out.old)) }
 {
     for made in 0..sweeps {
-        let is_stable = sweep(plan);
-        push_candidates(out, name, made + 1, plan)?;
-        if is_stable {
+        if push_sweep(out, name, made + 1, plan)? {
             return Ok(());
         }
     }
@@ -100,12 +105,13 @@ fn push_settled<S: Scale>(
     name: &str,
     plan: &mut Plan<S>,
 ) -> Result<(), AllocError>
+    requires can_be_lowered { 3 ≤ plan.old.tables.limits.bound }
     ensures adds_the_lines { OnOk result (string_bytes out.new
         ≡ settled_lines name.now (S.join plan.old.scale) (S.rest plan.old.scale) plan.old.tables
         (string_bytes out.old)) }
 {
-    // Accepted: where the plan fills its ceiling, and so its bound, is at least 4.
-    let _ = plan.lower(BOUND);
+    // Proved to be accepted, since the bound is 3 or more.
+    plan.lower(BOUND).unwrap();
     push_candidates(out, name, 0, plan)?;
     push_sweeps(out, name, MOST_SWEEPS, plan)
 }
