@@ -1,12 +1,12 @@
 -- Where the sample is filled, its lines are those of the filled tables.
-use Rattle.std.proofs.Common.{◌≡◌, ℕ, List, Some, None, Ok, Option, sym, ap, ◌∙◌}
+use Rattle.std.proofs.Common.{◌≡◌, ℕ, List, Some, None, Ok, Option, sym, ap}
 use Rattle.plan.specs.declared.refusals.FillFault.{FillFault}
 use Rattle.plan.specs.declared.tables.Tables.{Tables}
 use Rattle.plan.specs.Faults.{fill_fault}
-use Rattle.plan.specs.Filling.{filled_tables, fill_answer, fill_after}
+use Rattle.plan.specs.Filling.{filled_tables}
 use Rattle.plan.specs.Fresh.{new_tables}
 use Rattle.plan.specs.Refusing.{answered, unless_refused}
-use Rattle.report.specs.PlanReports.{sample_counts, sample_own, sample_pairs, tuning_lines, filled_lines, plan_lines}
+use Rattle.report.specs.PlanReports.{sample_counts, sample_own, sample_pairs, sample_answer, sample_after, tuning_lines, filled_lines, plan_lines}
 
 abbrev filled : ℕ → Tables
 filled c = filled_tables c sample_counts sample_own sample_pairs
@@ -19,11 +19,6 @@ module _ (name : List ℕ) (join : ℕ → ℕ → ℕ → ℕ) (c : ℕ) (befor
       ap (λ (z : Tables). tuning_lines name (join z.limits.ceiling) z before) (sym h)
   by_fault (Some f) e h = cc
 
-  pub filled_sample : (x : Tables) → x ≡ new_tables →
-      Ok tt ≡ fill_answer x c sample_counts sample_own sample_pairs →
-      y ≡ fill_after x c sample_counts sample_own sample_pairs →
+  pub filled_sample : Ok tt ≡ sample_answer c → y ≡ sample_after c →
       plan_lines name join c before ≡ tuning_lines name (join y.limits.ceiling) y before
-  filled_sample x new e h =
-      by_fault (fill_fault new_tables c sample_counts sample_own sample_pairs)
-      (e ∙ ap (λ (z : Tables). fill_answer z c sample_counts sample_own sample_pairs) new)
-      (h ∙ ap (λ (z : Tables). fill_after z c sample_counts sample_own sample_pairs) new)
+  filled_sample = by_fault (fill_fault new_tables c sample_counts sample_own sample_pairs)

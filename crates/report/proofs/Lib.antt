@@ -2,4 +2,5 @@ pub mod Cuts
 pub mod Digits
 pub mod FilledSamples
 pub mod Lines
+pub mod SweepLines
 pub mod Tunings

@@ -3,4 +3,5 @@ pub mod Refusals
 pub mod Readings
 pub mod RowReports
 pub mod PlanReports
+pub mod SweepReports
 pub mod Answers

@@ -24,6 +24,13 @@ sample_own = 3 ∷ 1 ∷ 1 ∷ 0 ∷ []
 abbrev pub sample_pairs : List PairRecord
 sample_pairs = record { entry = 0; candidate = 1; other = 1; choice = 1; points = 4 } ∷ []
 
+-- what filling a new plan from them answers, and the tables that it leaves
+abbrev pub sample_answer : ℕ → Result (Unit {0}) FillFault
+sample_answer c = fill_answer new_tables c sample_counts sample_own sample_pairs
+
+abbrev pub sample_after : ℕ → Tables
+sample_after c = fill_after new_tables c sample_counts sample_own sample_pairs
+
 abbrev pub and_then : {A B : Type 0} → Option A → (A → Option B) → Option B
 and_then None next = None
 and_then (Some x) next = next x
@@ -66,8 +73,7 @@ filled_lines name join (Err f) x before = before ++ fault_line name f
 
 -- the plan filled at a ceiling, on a scale
 abbrev pub plan_lines : List ℕ → (ℕ → ℕ → ℕ → ℕ) → ℕ → List ℕ → List ℕ
-plan_lines name join c before =
-    filled_lines name (join c) (fill_answer new_tables c sample_counts sample_own sample_pairs) (fill_after new_tables c sample_counts sample_own sample_pairs) before
+plan_lines name join c before = filled_lines name (join c) (sample_answer c) (sample_after c) before
 
 -- on both scales
 abbrev pub plan_report : ℕ → List ℕ → List ℕ

@@ -5,11 +5,13 @@ ghost use Rattle.report.specs.Answers.{refusal_lines, written_for};
 ghost use Rattle.report.specs.PlanReports.{plan_report};
 ghost use Rattle.report.specs.RowReports.{report_of};
 ghost use Rattle.report.specs.Refusals.{number_of};
+ghost use Rattle.report.specs.SweepReports.{settling_report};
 
 use crate::plans::push_plans;
 use crate::read::read;
 use crate::refusal::Refusal;
 use crate::rows::row_report;
+use crate::sweeps::push_settlings;
 use std::alloc::{AllocError, Global};
 
 // A refusal's number and line.
@@ -22,14 +24,15 @@ fn refusal_text(heap: Global, refusal: Refusal) -> Result<String, AllocError>
     format!(in heap; "refusal line\n{number} {line}\n")
 }
 
-// The report of a row, and of the plan at its ceiling.
+// The report of a row, and of the plan at its ceiling: what it costs, and how it settles.
 fn report(heap: Global, ceiling: u32, penalties: &[u32]) -> Result<String, AllocError>
     ensures is_the_report { IfOk result (λ s. string_bytes s
-        ≡ plan_report ceiling
-        (report_of (record { ceiling = ceiling; penalties = penalties.now }))) }
+        ≡ settling_report ceiling (plan_report ceiling
+        (report_of (record { ceiling = ceiling; penalties = penalties.now })))) }
 {
     let mut out = row_report(heap, ceiling, penalties)?;
     push_plans(&mut out, ceiling)?;
+    push_settlings(&mut out, ceiling)?;
     Ok(out)
 }
 
@@ -50,18 +53,134 @@ mod tests {
     use std::test::Fail;
 
     // Texts, and what is answered.
-    const CASES: [(&str, &str); 14] = [
+    const CASES: [(&str, &str); 15] = [
         (
             "10\n6\n7\n",
-            "scale penalty join\nsum 6 6\nsum 7 10\nworst 6 6\nworst 7 7\nscale joined\nsum 10\nworst 7\nscale first second floor own own cell cost\nsum 0 0 0 3 1 0 4\nsum 0 1 0 3 0 0 3\nsum 1 0 0 1 1 0 2\nsum 1 1 0 1 0 4 5\nworst 0 0 0 3 1 0 3\nworst 0 1 0 3 0 0 3\nworst 1 0 0 1 1 0 1\nworst 1 1 0 1 0 4 4\n",
+            "scale penalty join\n\
+            sum 6 6\n\
+            sum 7 10\n\
+            worst 6 6\n\
+            worst 7 7\n\
+            scale joined\n\
+            sum 10\n\
+            worst 7\n\
+            scale first second floor own own cell cost\n\
+            sum 0 0 0 3 1 0 4\n\
+            sum 0 1 0 3 0 0 3\n\
+            sum 1 0 0 1 1 0 2\n\
+            sum 1 1 0 1 0 4 5\n\
+            worst 0 0 0 3 1 0 3\n\
+            worst 0 1 0 3 0 0 3\n\
+            worst 1 0 0 1 1 0 1\n\
+            worst 1 1 0 1 0 4 4\n\
+            scale sweep floor entry candidate own open\n\
+            sum 0 0 0 0 3 1\n\
+            sum 0 0 0 1 1 1\n\
+            sum 0 0 1 0 1 1\n\
+            sum 0 0 1 1 0 1\n\
+            sum 1 1 0 0 2 0\n\
+            sum 1 1 0 1 0 1\n\
+            sum 1 1 1 0 1 1\n\
+            sum 1 1 1 1 0 1\n\
+            sum 2 2 0 0 2 0\n\
+            sum 2 2 0 1 0 1\n\
+            sum 2 2 1 0 0 1\n\
+            sum 2 2 1 1 3 0\n\
+            sum 3 2 0 0 2 0\n\
+            sum 3 2 0 1 0 1\n\
+            sum 3 2 1 0 0 1\n\
+            sum 3 2 1 1 3 0\n\
+            worst 0 0 0 0 3 1\n\
+            worst 0 0 0 1 1 1\n\
+            worst 0 0 1 0 1 1\n\
+            worst 0 0 1 1 0 1\n\
+            worst 1 1 0 0 3 0\n\
+            worst 1 1 0 1 1 1\n\
+            worst 1 1 1 0 1 1\n\
+            worst 1 1 1 1 0 1\n\
+            worst 2 1 0 0 3 0\n\
+            worst 2 1 0 1 1 1\n\
+            worst 2 1 1 0 1 1\n\
+            worst 2 1 1 1 4 0\n\
+            worst 3 1 0 0 3 0\n\
+            worst 3 1 0 1 1 1\n\
+            worst 3 1 1 0 1 1\n\
+            worst 3 1 1 1 4 0\n",
+        ),
+        (
+            "4\n",
+            "scale penalty join\n\
+            scale joined\n\
+            sum 0\n\
+            worst 0\n\
+            scale first second floor own own cell cost\n\
+            sum 0 0 0 3 1 0 4\n\
+            sum 0 1 0 3 0 0 3\n\
+            sum 1 0 0 1 1 0 2\n\
+            sum 1 1 0 1 0 4 4\n\
+            worst 0 0 0 3 1 0 3\n\
+            worst 0 1 0 3 0 0 3\n\
+            worst 1 0 0 1 1 0 1\n\
+            worst 1 1 0 1 0 4 4\n\
+            scale sweep floor entry candidate own open\n\
+            sum 0 0 0 0 3 1\n\
+            sum 0 0 0 1 1 1\n\
+            sum 0 0 1 0 1 1\n\
+            sum 0 0 1 1 0 1\n\
+            sum 1 1 0 0 2 0\n\
+            sum 1 1 0 1 0 1\n\
+            sum 1 1 1 0 1 1\n\
+            sum 1 1 1 1 0 1\n\
+            sum 2 2 0 0 2 0\n\
+            sum 2 2 0 1 0 1\n\
+            sum 2 2 1 0 0 1\n\
+            sum 2 2 1 1 4 0\n\
+            sum 3 2 0 0 2 0\n\
+            sum 3 2 0 1 0 1\n\
+            sum 3 2 1 0 0 1\n\
+            sum 3 2 1 1 4 0\n\
+            worst 0 0 0 0 3 1\n\
+            worst 0 0 0 1 1 1\n\
+            worst 0 0 1 0 1 1\n\
+            worst 0 0 1 1 0 1\n\
+            worst 1 1 0 0 3 0\n\
+            worst 1 1 0 1 1 1\n\
+            worst 1 1 1 0 1 1\n\
+            worst 1 1 1 1 0 1\n\
+            worst 2 1 0 0 3 0\n\
+            worst 2 1 0 1 1 1\n\
+            worst 2 1 1 0 1 1\n\
+            worst 2 1 1 1 4 0\n\
+            worst 3 1 0 0 3 0\n\
+            worst 3 1 0 1 1 1\n\
+            worst 3 1 1 0 1 1\n\
+            worst 3 1 1 1 4 0\n",
         ),
         (
             "3\n",
-            "scale penalty join\nscale joined\nsum 0\nworst 0\nscale first second floor own own cell cost\nsum refusal 5 list 2 place 0\nworst refusal 5 list 2 place 0\n",
+            "scale penalty join\n\
+            scale joined\n\
+            sum 0\n\
+            worst 0\n\
+            scale first second floor own own cell cost\n\
+            sum refusal 5 list 2 place 0\n\
+            worst refusal 5 list 2 place 0\n\
+            scale sweep floor entry candidate own open\n",
         ),
         (
             "2\n2\n1\n",
-            "scale penalty join\nsum 2 2\nsum 1 2\nworst 2 2\nworst 1 2\nscale joined\nsum 2\nworst 2\nscale first second floor own own cell cost\nsum refusal 5 list 1 place 0\nworst refusal 5 list 1 place 0\n",
+            "scale penalty join\n\
+            sum 2 2\n\
+            sum 1 2\n\
+            worst 2 2\n\
+            worst 1 2\n\
+            scale joined\n\
+            sum 2\n\
+            worst 2\n\
+            scale first second floor own own cell cost\n\
+            sum refusal 5 list 1 place 0\n\
+            worst refusal 5 list 1 place 0\n\
+            scale sweep floor entry candidate own open\n",
         ),
         ("", "refusal line\n20 1\n"),
         ("10", "refusal line\n20 1\n"),

@@ -7,3 +7,4 @@ mod plans;
 mod read;
 mod refusal;
 mod rows;
+mod sweeps;

@@ -1,8 +1,9 @@
 // What is written for a plan that the program has as data.
-ghost use Rattle.std.specs.Prelude.{◌≡◌, ◌++◌, string_bytes, OnOk};
+ghost use Rattle.std.specs.Prelude.{◌≡◌, ◌≤◌, ◌++◌, Ok, Err, string_bytes, IfOk, MatchResult, OnOk};
 ghost use Rattle.plan.specs.Plans.{at_ceiling};
 ghost use Rattle.report.specs.PlanReports.{paid_by, named_tuning, paid_numbers, paid_line};
 ghost use Rattle.report.specs.PlanReports.{tuning_lines, fault_line, plan_lines, plan_report};
+ghost use Rattle.report.specs.PlanReports.{sample_answer, sample_after};
 
 use plan::Plan;
 use plan::records::PairRecord;
@@ -100,15 +101,14 @@ fn push_tunings<S: Scale>(out: &mut String, name: &str, plan: &Plan<S>) -> Resul
     Ok(())
 }
 
-// The plan, filled on a scale.
-fn push_plan<S: Scale + Drop>(
-    out: &mut String,
-    name: &str,
-    scale: S,
-    ceiling: u32,
-) -> Result<(), AllocError>
-    ensures adds_the_lines { OnOk result (string_bytes out.new
-        ≡ plan_lines name.now (S.join scale) ceiling (string_bytes out.old)) }
+// The plan, filled on a scale at a ceiling.
+pub(crate) fn filled_plan<S: Scale + Drop>(scale: S, ceiling: u32) -> Result<Plan<S>, FillFault>
+    ensures answers { MatchResult result
+        (λ plan. Ok tt ≡ sample_answer ceiling)
+        (λ fault. Err fault ≡ sample_answer ceiling) }
+    ensures is_filled { IfOk result (λ plan. plan.tables ≡ sample_after ceiling) }
+    ensures is_on_the_scale { IfOk result (λ plan. plan.scale ≡ scale) }
+    ensures its_bound_is_at_least_four { IfOk result (λ plan. 4 ≤ plan.tables.limits.bound) }
 {
     let pairs = [PairRecord {
         entry: 0,
@@ -118,8 +118,22 @@ fn push_plan<S: Scale + Drop>(
         points: 4,
     }];
     let mut plan = Plan::new(scale);
-    match plan.fill(ceiling, &[2, 2], &[3, 1, 1, 0], &pairs) {
-        Ok(()) => push_tunings(out, name, &plan),
+    plan.fill(ceiling, &[2, 2], &[3, 1, 1, 0], &pairs)?;
+    Ok(plan)
+}
+
+// Its tunings, or the fault.
+fn push_plan<S: Scale + Drop>(
+    out: &mut String,
+    name: &str,
+    scale: S,
+    ceiling: u32,
+) -> Result<(), AllocError>
+    ensures adds_the_lines { OnOk result (string_bytes out.new
+        ≡ plan_lines name.now (S.join scale) ceiling (string_bytes out.old)) }
+{
+    match filled_plan(scale, ceiling) {
+        Ok(plan) => push_tunings(out, name, &plan),
         Err(fault) => push_fault(out, name, fault),
     }
 }

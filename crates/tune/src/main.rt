@@ -1,5 +1,5 @@
 // Reads a ceiling and penalties from standard input. Prints their running joins and joined penalty
-// on both scales, and what the tunings of a small plan cost at that ceiling.
+// on both scales, what the tunings of a small plan cost at that ceiling, and how the plan settles.
 #![tactic(auto)]
 
 use report::answer::answer;
