@@ -128,7 +128,8 @@ impl Lists<'_> {
     }
 
     // Each record is held against those before it. A rule of the project: a repeated cell or a pair
-    // too many is sought by nested loops, which are left at the first fault by their label.
+    // too many is sought by nested loops, which are left at the first fault by their label; the
+    // inner one tells whether its pair was met.
     fn check_records(&self) -> Result<(), FillFault>
         ensures is_the_first_fault { Finds
             (in_list Pairs

@@ -3,7 +3,7 @@ ghost use Rattle.std.specs.Prelude.{◌≡◌, ◌↔◌, min, is_ok, IfOk, IsTr
 ghost use Rattle.scale.specs.Ceilings.{clamped};
 ghost use Rattle.scale.specs.Sums.{sum_join};
 ghost use Rattle.scale.specs.Worsts.{worst_join, largest};
-ghost use Rattle.plan.specs.Costs.{parts, cost, cost_answer};
+ghost use Rattle.plan.specs.Costs.{parts, cost_answer};
 ghost use Rattle.plan.specs.Plans.{at_ceiling};
 ghost use Rattle.plan.specs.Tunings.{OpenTuning};
 
@@ -31,21 +31,7 @@ impl<S: Scale> Plan<S> {
         if !self.is_open_tuning(tuning) {
             return Err(Refusal::Absent);
         }
-        Ok(self.paid(tuning))
-    }
-
-    // All that an open tuning pays, joined.
-    fn paid(&self, tuning: &[usize]) -> u32
-        requires open_tuning { OpenTuning self.now.tables tuning.now }
-        ensures is_its_cost { result
-            ≡ cost (at_ceiling S.join self.now) self.now.tables tuning.now }
-        ensures capped_sum_on_the_sum_scale { S.join self.now.scale ≡ clamped sum_join
-            → result ≡ min self.now.tables.limits.ceiling (sum (parts self.now.tables tuning.now)) }
-        ensures largest_on_the_worst_scale { S.join self.now.scale ≡ clamped worst_join
-            → result ≡ min self.now.tables.limits.ceiling
-            (largest (parts self.now.tables tuning.now)) }
-    {
         let parts = self.gather(tuning);
-        joined_penalty(&self.scale, self.tables.limits.ceiling, parts.as_slice())
+        Ok(joined_penalty(&self.scale, self.tables.limits.ceiling, parts.as_slice()))
     }
 }

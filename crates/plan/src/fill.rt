@@ -14,7 +14,7 @@ use scale::Scale;
 impl<S: Scale> Plan<S> {
     // Fills an empty plan: `counts` has the number of candidates of each entry, `own` their own
     // penalties by entry and then candidate, and `pairs` the points of cells. Cells that are not
-    // listed are 0, and everything is open.
+    // listed are 0, and everything is open. What a caller gives stays as it was, four values.
     pub fn fill(
         &mut self,
         ceiling: u32,

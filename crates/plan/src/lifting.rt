@@ -41,7 +41,9 @@ impl Tables {
         }
     }
 
-    // Takes an amount off each number of its candidate at a place.
+    // Takes an amount off each number of its candidate at a place. The scale, here and in the moves
+    // below, is the plan's, lent beside its tables: a method of the plan would be no plainer, since
+    // it had to show that what is between two changes keeps the invariant.
     pub(crate) fn take_off<S: Scale>(&mut self, scale: &S, place: Place, moved: Hand)
         requires can { CanAdjust self.old moved.entry moved.candidate place }
         ensures takes_it_off { self.new
@@ -191,7 +193,8 @@ impl<S: Scale> Plan<S> {
     }
 
     // Joins the amount in hand to a candidate's own penalty, or to the open cells of a row at it. A
-    // refused token comes back beside its refusal, since it may not be let go.
+    // rule of the project: a refused token comes back beside its refusal, since it may not be let
+    // go.
     #[tactic(auto, using(crate::proofs::Keepings::keeps_refl))]
     pub fn set_down(&mut self, token: Token, to: Place) -> Result<(), (Refusal, Token)>
         ensures answers { result ≡ set_answer self.old.tables token to }

@@ -26,6 +26,7 @@ impl Refusal {
     pub fn number(&self) -> u32
         ensures is_its_number { result ≡ number_of self.now }
     {
+        // Named, so that an edit can turn this number alone.
         let refusal = *self;
         refusal as u32
     }
@@ -45,6 +46,7 @@ impl FillList {
     pub fn number(&self) -> u32
         ensures is_its_number { result ≡ list_number_of self.now }
     {
+        // Named, so that an edit can turn this number alone.
         let list = *self;
         list as u32
     }

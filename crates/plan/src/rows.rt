@@ -64,7 +64,8 @@ fn row_place(ahead: bool, p: usize, c: usize, k: usize) -> usize
 }
 
 impl Tables {
-    // Whether an entry of a pair is its first, and the other entry.
+    // Whether an entry of a pair is its first, and the other entry. Both are always meant, so
+    // neither stands in an Option.
     fn sides(&self, entry: usize, pair: usize) -> (bool, usize)
         requires there { pair < 24 }
         ensures are_they { result ≡ (is_first self.now entry pair, other_of self.now entry pair) }

@@ -6,6 +6,7 @@ use crate::tables::Hand;
 
 // An amount that was lifted for a candidate. It may be let go only once a set-down has spent it.
 // The flag stays, since a rule of the project wants a drop that demands it.
+#[derive(Debug)]
 pub struct Token {
     held: Hand,
     spent: bool,

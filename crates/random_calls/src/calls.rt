@@ -11,6 +11,7 @@ use scale::Scale;
 use scale::sum::SumScale;
 use scale::worst::WorstScale;
 use std::alloc::{AllocError, Global};
+use std::ops::AddAssign;
 use std::process::Abort;
 use std::test::Fail;
 
@@ -23,8 +24,8 @@ struct Tally {
     sweeps: u32,
 }
 
-impl Tally {
-    fn add(&mut self, other: Tally) {
+impl AddAssign for Tally {
+    fn add_assign(&mut self, other: Tally) {
         self.lifts = self.lifts.saturating_add(other.lifts);
         self.lowerings = self.lowerings.saturating_add(other.lowerings);
         self.closings = self.closings.saturating_add(other.closings);
@@ -41,7 +42,7 @@ fn place(dice: &mut Dice) -> Place {
 }
 
 // A plan in play, with the lists that it was filled from and the dice that choose its calls.
-// Nothing compares games, nor their lists.
+// Nothing compares games.
 #[derive(Debug, Drop)]
 struct Game<S> {
     scale: S,
@@ -176,7 +177,7 @@ fn play<S: Scale + Copy>(
 fn play_many<S: Scale + Copy>(rt: &impl Abort, heap: Global, scale: S) -> Result<(), Fail> {
     let mut total = Tally::default();
     for number in 0..400 {
-        total.add(play(rt, heap, scale, number)?);
+        total += play(rt, heap, scale, number)?;
     }
     assert!(rt; total.lifts > 400, "enough lifts are accepted");
     assert!(rt; total.lowerings > 40, "enough bounds are lowered");

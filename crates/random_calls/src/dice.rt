@@ -13,7 +13,8 @@ impl Dice {
         }
     }
 
-    // A number below a limit, or 0 where the limit is 0.
+    // A number below a limit, or 0 where the limit is 0. Here and below `as` stays, since no `From`
+    // goes from so wide a type, nor to `usize`.
     pub(crate) fn below(&mut self, limit: u32) -> u32
         ensures is_low { result ≤ limit }
     {
@@ -24,7 +25,7 @@ impl Dice {
         if limit == 0 {
             return 0;
         }
-        ((self.state >> 33) % limit as u64) as u32
+        ((self.state >> 33) % u64::from(limit)) as u32
     }
 
     pub(crate) fn place(&mut self, limit: u32) -> usize

@@ -6,6 +6,7 @@ use plan::records::PairRecord;
 use scale::Scale;
 use std::alloc::{AllocError, Global};
 
+// They own what the lists of `fill` lend. Nothing compares them.
 #[derive(Debug, Drop)]
 pub(crate) struct Lists {
     pub ceiling: u32,

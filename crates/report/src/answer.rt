@@ -14,7 +14,7 @@ use crate::rows::row_report;
 use crate::sweeps::push_settlings;
 use std::alloc::{AllocError, Global};
 
-// A refusal's number and line.
+// A refusal's number and line; a proved fact, which a `fmt` of the refusal would not be.
 fn refusal_text(heap: Global, refusal: Refusal) -> Result<String, AllocError>
     ensures is_the_refusal { IfOk result (λ s. string_bytes s
         ≡ refusal_lines (number_of refusal.reason) refusal.line) }

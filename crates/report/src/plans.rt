@@ -23,6 +23,8 @@ pub struct Paid {
     pub cost: u32,
 }
 
+// The two candidates stay two numbers, as the definitions name them, and the scale's name is a word
+// of the report, which a scale does not carry.
 fn pay<S: Scale>(plan: &Plan<S>, a: usize, b: usize) -> Option<Paid>
     ensures is_what_it_pays { result
         ≡ paid_by (at_ceiling S.join plan.now) plan.now.tables a b }
@@ -37,7 +39,8 @@ fn pay<S: Scale>(plan: &Plan<S>, a: usize, b: usize) -> Option<Paid>
 }
 
 // The text and the name stay parameters: `Lines { out, name }.push_paid(..)` would be no shorter.
-// What a line says is a proved fact, of which a `fmt` of the values would promise nothing.
+// What a line says is a proved fact, of which a `fmt` of the values would promise nothing. Such
+// bodies look alike; the text of each is its meaning.
 fn push_tuning_name(out: &mut String, name: &str, a: usize, b: usize) -> Result<(), AllocError>
     ensures names_it { OnOk result (string_bytes out.new
         ≡ string_bytes out.old ++ named_tuning name.now a b) }

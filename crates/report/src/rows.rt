@@ -10,7 +10,8 @@ use std::alloc::{AllocError, Global};
 
 // A line for one penalty.
 // The text and the name stay parameters: `Lines { out, name }.push(..)` would be no shorter. What
-// the line says is a proved fact, of which a `fmt` of the values would promise nothing.
+// the line says is a proved fact, of which a `fmt` of the values would promise nothing. Such bodies
+// look alike; the text of each is its meaning.
 fn push_running_line(
     out: &mut String,
     name: &str,
@@ -43,7 +44,7 @@ fn push_running_lines<S: Scale>(
     Ok(())
 }
 
-// The joined penalty on each scale.
+// The joined penalty on each scale, by `write!` for the same reason.
 fn push_joined_lines(out: &mut String, sum: u32, worst: u32) -> Result<(), AllocError>
     ensures adds_the_lines { OnOk result (string_bytes out.new
         ≡ string_bytes out.old ++ joined_lines sum worst) }

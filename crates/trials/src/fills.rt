@@ -7,6 +7,7 @@ use scale::sum::SumScale;
 // What a plan answers to lists, with a fault as a user sees it: its number, its list and its place.
 type Answer = Result<(), (u32, u32, usize)>;
 
+// The parameters stay, here and below: they are those of `fill`, in its order.
 fn answered(
     plan: &mut Plan<SumScale>,
     ceiling: u32,

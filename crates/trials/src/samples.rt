@@ -21,7 +21,8 @@ pub(crate) fn record(
     }
 }
 
-// A plan on a scale, filled from lists that it has to accept.
+// A plan on a scale, filled from lists that it has to accept. The parameters stay: they are those
+// of `fill`, in its order.
 pub(crate) fn filled_plan<S: Scale>(
     rt: &impl Abort,
     scale: S,
