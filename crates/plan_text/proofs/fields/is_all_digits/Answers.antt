@@ -2,8 +2,8 @@ use Rattle.std.proofs.Common.{◌∙◌, rules, tests}
 use Rattle.std.specs.Char.{is_ascii_digit}
 use Rattle.std.proofs.lemmas.Iterator.{YieldsList-from_slice}
 use Rattle.std.proofs.lemmas.Iterator.Search.{all_from_yields_List}
-use Rattle.report.proofs.Digits.{all_are_digits}
-use Rattle.report.proofs.fields.is_all_digits.Goals as goal
+use Rattle.plan_text.proofs.Digits.{all_are_digits}
+use Rattle.plan_text.proofs.fields.is_all_digits.Goals as goal
 
 pub returns : goal.returns
 returns c =

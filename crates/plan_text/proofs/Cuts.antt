@@ -14,7 +14,7 @@ use Rattle.std.proofs.lemmas.List.Quantifiers.{position-Some}
 use Rattle.std.proofs.lemmas.List.Splits.{slice_split_none, slice_split_first, slice_split_at}
 use Rattle.std.proofs.lemmas.List.Sums.{position_or_len_is, fails_before_first}
 use Rattle.std.proofs.lemmas.Slice.Eq.{strip_suffix_is}
-use Rattle.report.specs.Fields.{pieces, onto_first}
+use Rattle.plan_text.specs.Fields.{pieces, onto_first}
 
 onto_first_same : (b : ℕ) (ps : List (List ℕ)) → onto_first b ps ≡ list.onto_first b ps
 onto_first_same b [] = refl

@@ -10,7 +10,7 @@ use Rattle.std.proofs.lemmas.Bool.Decides.{nat_tests}
 use Rattle.std.proofs.lemmas.Fmt.{IsAscii-from_digits}
 use Rattle.std.proofs.lemmas.Str.{IsUtf8-from_ascii}
 use Rattle.std.proofs.lemmas.Str.Parse.{IsNumeralModel, numerals_by_fold, digits_value_short, parse_gives}
-use Rattle.report.specs.Fields.{read_on, shaped, value}
+use Rattle.plan_text.specs.Fields.{read_on, shaped, value}
 
 -- the test of each byte is the test of the field
 pub all_are_digits : (ds : List ℕ) → list_all is_ascii_digit ds ≡ all_ascii_digits ds

@@ -1,7 +1,7 @@
 use Rattle.std.proofs.Common.{◌≡◌, ◌∙◌, sym, arith}
 use Rattle.std.proofs.lemmas.Grind.{common_steps}
-use Rattle.report.proofs.Digits.{digits_are_text, parsed_value}
-use Rattle.report.proofs.fields.value_of.Goals as goal
+use Rattle.plan_text.proofs.Digits.{digits_are_text, parsed_value}
+use Rattle.plan_text.proofs.fields.value_of.Goals as goal
 
 pub returns-in_err-ok : goal.returns-in_err-ok
 returns-in_err-ok c =

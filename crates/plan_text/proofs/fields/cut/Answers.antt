@@ -1,6 +1,6 @@
 use Rattle.std.proofs.Common.{◌∙◌, sym}
-use Rattle.report.proofs.Cuts.{cut_at, cut_none}
-use Rattle.report.proofs.fields.cut.Goals as goal
+use Rattle.plan_text.proofs.Cuts.{cut_at, cut_none}
+use Rattle.plan_text.proofs.fields.cut.Goals as goal
 
 pub returns-in_err-end-clause-first_piece_and_rest :
     goal.returns-in_err-end-clause-first_piece_and_rest

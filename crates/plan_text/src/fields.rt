@@ -2,7 +2,7 @@
 ghost use Rattle.std.specs.Prelude.{◌≡◌, ◌<◌, ◌==◌, [], ◌∷◌, length, position};
 ghost use Rattle.std.specs.Prelude.{IfSome, MatchOption};
 ghost use Rattle.std.specs.Str.{all_ascii_digits};
-ghost use Rattle.report.specs.Fields.{pieces, shaped, value};
+ghost use Rattle.plan_text.specs.Fields.{pieces, shaped, value};
 
 // The most digits of a value.
 const MOST_DIGITS: usize = 7;
@@ -15,7 +15,7 @@ fn first_place(text: &[u8], separator: u8) -> Option<usize>
 }
 
 // What stands before the first `separator`, and what follows it.
-pub(crate) fn cut(text: &[u8], separator: u8) -> Option<(&[u8], &[u8])>
+pub fn cut(text: &[u8], separator: u8) -> Option<(&[u8], &[u8])>
     ensures first_piece_and_rest { MatchOption result
         (pieces separator text.now ≡ text.now ∷ [])
         (λ p. pieces separator text.now ≡ p.0.now ∷ pieces separator p.1.now) }
@@ -39,7 +39,7 @@ fn is_all_digits(field: &[u8]) -> bool
 }
 
 // The value of a field, if it is one.
-pub(crate) fn value_of(field: &[u8]) -> Option<u32>
+pub fn value_of(field: &[u8]) -> Option<u32>
     ensures is_its_value { result ≡ value field.now }
 {
     if !is_shaped(field) || !is_all_digits(field) {

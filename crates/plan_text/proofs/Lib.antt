@@ -1,0 +1,4 @@
+pub mod Orders
+pub mod Cuts
+pub mod Digits
+pub mod Texts
