@@ -17,7 +17,7 @@ pub all_are_digits : (ds : List ℕ) → list_all is_ascii_digit ds ≡ all_asci
 all_are_digits [] = refl
 all_are_digits (d ∷ ds) = rw (all_are_digits ds) refl
 
-own : IsNumeralModel (λ ds. all_ascii_digits ds ≡ true) (read_on 0)
+pub own : IsNumeralModel (λ ds. all_ascii_digits ds ≡ true) (read_on 0)
 own = numerals_by_fold _ (search rules) read_on (search rules)
 
 module _ (t : List ℕ) (digits : all_ascii_digits t ≡ true) where

@@ -6,3 +6,5 @@ pub mod Faults
 pub mod Readings
 pub mod Rooms
 pub mod Fills
+pub mod Writings
+pub mod RoundTrips

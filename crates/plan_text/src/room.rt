@@ -1,6 +1,7 @@
 // Room for the lists of a plan's text, made before it is read.
 ghost use Rattle.std.specs.Prelude.{◌≡◌, ◌≤◌, vec_capacity, vec_len, IfErr};
 ghost use Rattle.plan_text.specs.Readings.{as_reading, reading};
+ghost use Rattle.plan_text.specs.RoundTrips.{IsWrittenSo, ReadsBack};
 ghost use Rattle.plan_text.specs.declared.faults.TextFault.TheVariants.{OutOfMemory};
 
 use crate::columns::order_named;
@@ -40,6 +41,15 @@ impl Room {
 
     // The lists that a text says, or its first fault.
     pub fn read(self, text: &[u8]) -> Result<PlanLists, TextFault>
+        ensures reads_what_the_text_says { as_reading result ≡ reading text.now }
+        ensures what_is_written_reads_back { ReadsBack text.now (as_reading result) }
+        ensures what_it_accepts_is_written_so { IsWrittenSo text.now (as_reading result) }
+    {
+        self.first_reading(text)
+    }
+
+    // The reading by itself: what follows from it is promised where it is called.
+    fn first_reading(self, text: &[u8]) -> Result<PlanLists, TextFault>
         ensures reads_what_the_text_says { as_reading result ≡ reading text.now }
     {
         if text.len() > LONGEST_TEXT {
