@@ -9,3 +9,4 @@ pub mod Unders
 pub mod Trips
 pub mod Places
 pub mod RoundTrips
+pub mod RowTexts

@@ -106,7 +106,7 @@ leads_pairs ns ps done (r ∷ rs) = (
 )
 
 -- m candidates of the entry e from c on
-abbrev upward : ℕ → ℕ → ℕ → List (ℕ × ℕ)
+abbrev pub upward : ℕ → ℕ → ℕ → List (ℕ × ℕ)
 upward e c zero = []
 upward e c (suc m) = (e, c) ∷ upward e (c + 1) m
 
@@ -114,11 +114,11 @@ upward_push : (e c m : ℕ) → upward e c (suc m) ≡ upward e c m ++ (e, c + m
 upward_push e c zero = ap (λ i. (e, i) ∷ []) (sym (add-zero c))
 upward_push e c (suc m) = ap (λ r. (e, c) ∷ r) (upward_push e (c + 1) m ∙ ap (λ i. upward e (c + 1) m ++ (e, i) ∷ []) (let same : c + 1 + m ≡ c + suc m = omega arith in same))
 
-candidates_up : (e m : ℕ) → candidates e m ≡ upward e 0 m
+pub candidates_up : (e m : ℕ) → candidates e m ≡ upward e 0 m
 candidates_up e zero = refl
 candidates_up e (suc m) = ap (λ r. r ++ (e, m) ∷ []) (candidates_up e m) ∙ ap (λ i. upward e 0 m ++ (e, i) ∷ []) (let same : m ≡ 0 + m = omega arith in same) ∙ sym (upward_push e 0 m)
 
-length_upward : (e c m : ℕ) → length (upward e c m) ≡ m
+pub length_upward : (e c m : ℕ) → length (upward e c m) ≡ m
 length_upward e c zero = refl
 length_upward e c (suc m) = ap suc (length_upward e (c + 1) m)
 

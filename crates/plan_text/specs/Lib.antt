@@ -8,3 +8,4 @@ pub mod Rooms
 pub mod Fills
 pub mod Writings
 pub mod RoundTrips
+pub mod Rows

@@ -9,3 +9,4 @@ pub mod lines;
 pub mod lists;
 mod reading;
 pub mod room;
+pub mod writing;

@@ -14,7 +14,8 @@ use std::alloc::Global;
 // The longest text that is read, in bytes.
 const LONGEST_TEXT: usize = 30_720;
 
-// Empty lists with room for whatever a text says, so that reading it cannot want for memory.
+// Empty lists with room for whatever a text says, so that reading it cannot want for memory. A text
+// has fewer lines than bytes, so there is room for as many as the longest text has bytes.
 #[derive(Debug, Drop)]
 pub struct Room {
     lists: PlanLists,
