@@ -1,5 +1,3 @@
-pub mod Cuts
-pub mod Digits
 pub mod FilledSamples
 pub mod Lines
 pub mod SweepLines

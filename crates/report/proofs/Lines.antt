@@ -1,11 +1,11 @@
 -- What a loop over the lines of penalties knows.
 use Rattle.std.proofs.Common.{◌≡◌, ℕ, ◌+◌, ◌<◌, ◌≤◌, List, [], ◌∷◌, ◌++◌, length, Ok, Err, Result, sym, refl, ap, ◌∙◌, arith}
 use Rattle.std.proofs.lemmas.Bool.{cond-false, le-ltb, ne_eqb}
-use Rattle.report.specs.Fields.{pieces}
+use Rattle.plan_text.specs.Fields.{pieces}
 use Rattle.report.specs.Readings.{Row, longest, refused, then_read, penalty_of, ceiling_of, penalties_of, row_of, reading}
 use Rattle.report.specs.declared.refusal.Reason.TheVariants.{MalformedLine}
 use Rattle.report.specs.declared.refusal.Refusal.{Refusal}
-use Rattle.report.proofs.Cuts.{pieces_some}
+use Rattle.plan_text.proofs.Cuts.{pieces_some}
 
 -- what follows a first line of ceiling c
 abbrev after_ceiling : List ℕ → ℕ → Result Row Refusal

@@ -1,4 +1,3 @@
-pub mod Fields
 pub mod Refusals
 pub mod Readings
 pub mod RowReports

@@ -1,7 +1,7 @@
 -- What a text says: on its first line a ceiling, and on each line after it a penalty.
 use Rattle.std.specs.Prelude.{◌≡◌, ℕ, ◌+◌, if◌then◌else◌, ◌&&◌, List, [], ◌∷◌, ◌++◌, length, Some, None, Ok, Err, Option, Result, ◌==◌, nat_le, nat_lt}
 use Rattle.scale.specs.Ceilings.{highest}
-use Rattle.report.specs.Fields.{pieces, value}
+use Rattle.plan_text.specs.Fields.{pieces, value}
 use Rattle.report.specs.declared.refusal.Reason.{Reason}
 use Rattle.report.specs.declared.refusal.Reason.TheVariants.{CeilingOutOfRange, PointsAboveCeiling, TextTooLong, MalformedLine}
 use Rattle.report.specs.declared.refusal.Refusal.{Refusal}

@@ -2,7 +2,6 @@
 #![tactic(auto)]
 
 pub mod answer;
-mod fields;
 mod plans;
 mod read;
 mod refusal;

@@ -1,10 +1,10 @@
 // A text read as a ceiling and penalties.
 ghost use Rattle.std.specs.Prelude.{◌≡◌, ◌≤◌, [], length, vec_capacity};
-ghost use Rattle.report.specs.Fields.{pieces, value};
+ghost use Rattle.plan_text.specs.Fields.{pieces, value};
 ghost use Rattle.report.specs.Readings.{longest, ranged, penalties_of, reading, Says};
 
-use crate::fields::{cut, value_of};
 use crate::refusal::{Reason, Refusal};
+use plan_text::fields::{cut, value_of};
 use scale::ceiling::HIGHEST_CEILING;
 
 // The longest text that is read, in bytes.

@@ -3,7 +3,7 @@ use Rattle.std.specs.Iterator.Adapters.{enumerate_source, enumerate_count}
 use Rattle.std.specs.Slice.Iter.{split_inclusive_rest}
 use Rattle.std.proofs.lemmas.List.Sorted.{answers_always}
 use Rattle.std.proofs.lemmas.Result.{err_from_is_err_and}
-use Rattle.report.proofs.Cuts.{cuts_next}
+use Rattle.plan_text.proofs.Cuts.{cuts_next}
 use Rattle.report.proofs.Lines.{line_refused, line_read, last_refused}
 use Rattle.report.proofs.read.read_penalties.Goals as goal
 

@@ -1,0 +1,12 @@
+pub mod Orders
+pub mod Cuts
+pub mod Digits
+pub mod Texts
+pub mod Pieces
+pub mod Values
+pub mod Written
+pub mod Unders
+pub mod Trips
+pub mod Places
+pub mod RoundTrips
+pub mod RowTexts
