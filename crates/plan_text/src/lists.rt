@@ -5,10 +5,7 @@ ghost use Rattle.plan_text.specs.Rooms.{RoomFor};
 
 use crate::lines::Line;
 use plan::records::PairRecord;
-
-pub(crate) const MOST_ENTRIES: usize = 16;
-
-const MOST_CANDIDATES: usize = 8;
+use plan::tables::{MOST_CANDIDATES, MOST_ENTRIES};
 
 // The number of candidates of each entry, their own penalties by entry and then candidate, and the
 // points of cells.

@@ -7,8 +7,9 @@ ghost use Rattle.plan_text.specs.declared.faults.TextFault.TheVariants.{OutOfMem
 use crate::columns::order_named;
 use crate::faults::TextFault;
 use crate::fields::cut;
-use crate::lists::{MOST_ENTRIES, PlanLists};
+use crate::lists::PlanLists;
 use crate::reading::read_lines;
+use plan::tables::MOST_ENTRIES;
 use std::alloc::Global;
 
 // The longest text that is read, in bytes.
