@@ -2,6 +2,7 @@
 ghost use Rattle.std.specs.Prelude.{◌≡◌, ℕ, true, None, OnErr};
 ghost use Rattle.plan.specs.Closing.{close_refusal, with_closed, close_answer, close_after};
 ghost use Rattle.plan.specs.Closing.{lower_refusal, with_bound, lower_answer, lower_after};
+ghost use Rattle.plan.specs.Invariant.{Sound};
 ghost use Rattle.plan.specs.Keeping.{Keeps};
 ghost use Rattle.plan.specs.Layout.{is_there};
 ghost use Rattle.plan.specs.Plans.{at_ceiling};
@@ -11,7 +12,19 @@ ghost use Rattle.plan.specs.Weights.{held_for, weight};
 use crate::Plan;
 use crate::layout::candidate_place;
 use crate::refusals::Refusal;
+use crate::tables::Tables;
 use scale::Scale;
+
+impl Tables {
+    // Marks a candidate closed.
+    fn put_closed(&mut self, entry: usize, candidate: usize)
+        requires sound { Sound self.old }
+        requires there { is_there self.old entry candidate ≡ true }
+        ensures closes_it { self.new ≡ with_closed self.old entry candidate }
+    {
+        self.entries.marks[candidate_place(entry, candidate)] = false;
+    }
+}
 
 impl<S: Scale> Plan<S> {
     // The join of two penalties at the plan's ceiling.
@@ -71,7 +84,7 @@ impl<S: Scale> Plan<S> {
             self.new.tables }
     {
         self.check_close(entry, candidate)?;
-        self.tables.entries.marks[candidate_place(entry, candidate)] = false;
+        self.tables.put_closed(entry, candidate);
         Ok(())
     }
 

@@ -94,9 +94,8 @@ impl Tables {
             → self.new ≡ with_cell_list self.old (row_changed by self.old entry candidate pair) }
     {
         let (ahead, other) = self.sides(entry, pair);
-        let entries = self.entries;
         change_marked(
-            entries.marks_of(other),
+            self.entries.marks_of(other),
             &mut self.pairs.cells,
             |k| row_place(ahead, pair, candidate, k),
             change,

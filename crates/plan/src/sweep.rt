@@ -39,9 +39,11 @@ impl Tables {
         ensures changes_them { (by : ℕ → ℕ) → Computes (F.post change) by
             → self.new ≡ with_own_list self.old (own_changed by self.old entry) }
     {
-        let entries = self.entries;
+        // The marks alone are copied: a field of the entries cannot be lent beside another one here.
+        let marks = self.entries.marks;
+        let start = candidate_place(entry, 0);
         change_marked(
-            entries.marks_of(entry),
+            &marks[start..start + self.entries.counts[entry]],
             &mut self.entries.own,
             |c| candidate_place(entry, c),
             change,
