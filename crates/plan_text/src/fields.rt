@@ -1,7 +1,6 @@
 // Text cut into pieces, and a field read as a value.
 ghost use Rattle.std.specs.Prelude.{◌≡◌, ◌<◌, ◌==◌, [], ◌∷◌, length, position};
 ghost use Rattle.std.specs.Prelude.{IfSome, MatchOption};
-ghost use Rattle.std.specs.Str.{all_ascii_digits};
 ghost use Rattle.plan_text.specs.Fields.{pieces, shaped, value};
 
 // The most digits of a value.
@@ -32,18 +31,15 @@ fn is_shaped(field: &[u8]) -> bool
     (1..=MOST_DIGITS).contains(&field.len()) && (field.len() == 1 || field[0] != b'0')
 }
 
-fn is_all_digits(field: &[u8]) -> bool
-    ensures is_all_digits { result ≡ all_ascii_digits field.now }
-{
-    field.iter().all(|byte| byte.is_ascii_digit())
-}
-
 // The value of a field, if it is one.
 pub fn value_of(field: &[u8]) -> Option<u32>
     ensures is_its_value { result ≡ value field.now }
 {
-    if !is_shaped(field) || !is_all_digits(field) {
+    if !is_shaped(field) {
         return None;
     }
-    str::from_utf8(field).ok()?.parse().ok()
+    field.iter().try_fold(0, |n, byte| {
+        byte.is_ascii_digit()
+            .then(|| n * 10 + u32::from(*byte - b'0'))
+    })
 }

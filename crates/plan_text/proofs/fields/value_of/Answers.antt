@@ -1,20 +1,28 @@
-use Rattle.std.proofs.Common.{◌≡◌, ◌∙◌, sym, arith}
-use Rattle.std.proofs.lemmas.Grind.{common_steps}
-use Rattle.plan_text.proofs.Digits.{digits_are_text, parsed_value}
+use Rattle.std.proofs.Common.{◌^◌, ◌<◌, Some, sym, refl, rules, tests, arith}
+use Rattle.std.proofs.lemmas.Fn.{serves_by}
+use Rattle.std.proofs.lemmas.Iterator.{YieldsList-from_slice}
+use Rattle.std.proofs.lemmas.Iterator.Consumers.{YieldsList-turn}
+use Rattle.plan_text.proofs.Digits.{Read, bytes, room, turn, folded}
 use Rattle.plan_text.proofs.fields.value_of.Goals as goal
 
-pub returns-in_err-ok : goal.returns-in_err-ok
-returns-in_err-ok c =
-    let digits = sym c.if-not-is_all_digits.ensures.is_all_digits in
-    let text = digits_are_text c.args.field.now digits in
-    grind (arith, common_steps)
+pub try_fold-requires-clause-callable : goal.try_fold-requires-clause-callable
+try_fold-requires-clause-callable c =
+    let field = c.args.field.now in
+    let shape = sym c.if-not-is_shaped.ensures.is_shaped in
+    let road = YieldsList-from_slice {s = c.iter.result} field cc in
+    serves_by _ (λ bs p. Read (bytes bs) p.1) (turn _ (λ f n b v f' k. search (rules, tests)))
+    _ _ _ _ (record { digits = refl; writes = refl })
+    (λ bs s p b u given next read.
+    let here = YieldsList-turn road bs s given (Some b) u b refl next in
+    let small : p.1 < 10 ^ 7 = room field shape bs p.1 read here.0 in
+    search arith)
 
 pub returns : goal.returns
 returns c =
     let shape = sym c.if-not-is_shaped.ensures.is_shaped in
-    let digits = sym c.if-not-is_all_digits.ensures.is_all_digits in
-    let same : c.in_ok-ok.field-0.now ≡ c.args.field.now = grind (arith, common_steps) in
-    let parsed = rw same at c.parse.ensures.value.0 in
+    let rest = c.iter.ensures.rest in
     record {
-      is_its_value = c.ok-2.ensures.value ∙ parsed_value c.args.field.now digits _ shape parsed;
+      is_its_value =
+          folded _ (λ f n b v f' k. search (rules, tests)) c.args.field.now c.iter.result _ _ _
+          rest shape c.try_fold.ensures.ran;
     }
