@@ -10,7 +10,7 @@ use plan::token::Token;
 use scale::Scale;
 use scale::sum::SumScale;
 use scale::worst::WorstScale;
-use std::alloc::{AllocError, Global};
+use std::alloc::Global;
 use std::ops::AddAssign;
 use std::process::Abort;
 use std::test::Fail;
@@ -53,15 +53,12 @@ struct Game<S> {
 }
 
 impl<S: Scale + Copy> Game<S> {
-    // A plan that made-up lists fill.
-    fn start(rt: &impl Abort, heap: Global, scale: S, number: u64) -> Result<Game<S>, AllocError> {
+    // A plan that made-up lists fill, or a test's failure.
+    fn start(heap: Global, scale: S, number: u64) -> Result<Game<S>, Fail> {
         let mut dice = Dice::new(number);
         let lists = Lists::random(heap, &mut dice)?;
         let mut plan = Plan::new(scale);
-        assert!(rt;
-            plan.fill(lists.ceiling, &lists.counts, &lists.own, &lists.pairs)
-                .is_ok()
-        );
+        plan.fill(lists.ceiling, &lists.counts, &lists.own, &lists.pairs)?;
         Ok(Game {
             scale,
             lists,
@@ -136,40 +133,46 @@ impl<S: Scale + Copy> Game<S> {
         }
     }
 
-    // A lift and, where it is accepted, a call and a set-down; all tunings are kept meanwhile.
-    fn lift_call(&mut self, rt: &impl Abort) {
+    // A lift and, where it is accepted, a call and a set-down; whether all tunings are kept
+    // meanwhile. It answers so, since an assertion here would take leave to end the process.
+    fn lift_call(&mut self) -> bool {
         let from = place(&mut self.dice);
         let (entry, candidate) = (self.dice.place(4), self.dice.place(3));
-        if let Ok(token) = self.plan.lift(from, entry, candidate, self.dice.below(4)) {
-            self.tally.lifts = self.tally.lifts.saturating_add(1);
-            assert!(rt; self.all_kept());
-            self.plain_call();
-            assert!(rt; self.all_kept());
-            self.set_somewhere(token);
+        match self.plan.lift(from, entry, candidate, self.dice.below(4)) {
+            Err(_) => true,
+            Ok(token) => {
+                self.tally.lifts = self.tally.lifts.saturating_add(1);
+                let lifted = self.all_kept();
+                self.plain_call();
+                let called = self.all_kept();
+                self.set_somewhere(token);
+                lifted && called
+            }
         }
     }
 
-    // A call of either kind; all tunings are kept after it.
-    fn call(&mut self, rt: &impl Abort) {
-        if self.dice.below(3) == 0 {
+    // A call of either kind; whether all tunings are kept meanwhile and after it.
+    fn call(&mut self) -> bool {
+        let meanwhile = if self.dice.below(3) == 0 {
             self.plain_call();
+            true
         } else {
-            self.lift_call(rt);
-        }
-        assert!(rt; self.all_kept());
+            self.lift_call()
+        };
+        meanwhile && self.all_kept()
     }
 }
 
-// A list of calls on a filled plan; what was accepted.
+// A list of calls on a filled plan, all tunings kept; what was accepted.
 fn play<S: Scale + Copy>(
     rt: &impl Abort,
     heap: Global,
     scale: S,
     number: u64,
-) -> Result<Tally, AllocError> {
-    let mut game = Game::start(rt, heap, scale, number)?;
+) -> Result<Tally, Fail> {
+    let mut game = Game::start(heap, scale, number)?;
     for _ in 0..16 {
-        game.call(rt);
+        assert!(rt; game.call(), "all tunings are kept");
     }
     Ok(game.tally)
 }

@@ -6,17 +6,17 @@ use plan::place::Place;
 use scale::Scale;
 use scale::sum::SumScale;
 use scale::worst::WorstScale;
-use std::process::Abort;
+use std::test::Fail;
 
 // One candidate with the row 2, 3 at the ceiling 10.
-fn row_of_two<S: Scale>(rt: &impl Abort, scale: S) -> Plan<S> {
+fn row_of_two<S: Scale + Drop>(scale: S) -> Result<Plan<S>, Fail> {
     let pairs = [record(0, 0, 1, 0, 2), record(0, 0, 1, 1, 3)];
-    filled_plan(rt, scale, 10, &[1, 2], &[0, 4, 1], &pairs)
+    filled_plan(scale, 10, &[1, 2], &[0, 4, 1], &pairs)
 }
 
 #[test]
-fn at_most_the_least_of_a_row(rt: HostRuntime) {
-    let mut plan = row_of_two(&rt, SumScale);
+fn at_most_the_least_of_a_row(rt: HostRuntime) -> Result<(), Fail> {
+    let mut plan = row_of_two(SumScale)?;
     assert_eq!(rt;
         numbered(moved(&mut plan, Place::Row(0), 0, 0, 3, Place::OwnPenalty)),
         Err(10)
@@ -35,11 +35,12 @@ fn at_most_the_least_of_a_row(rt: HostRuntime) {
     assert_eq!(rt; plan.cell(0, 0, 1), Some(1));
     assert_eq!(rt; numbered(plan.cost(&[0, 0])), Ok(6));
     assert_eq!(rt; numbered(plan.cost(&[0, 1])), Ok(4));
+    Ok(())
 }
 
 #[test]
-fn every_number_stays_on_the_worst_scale(rt: HostRuntime) {
-    let mut plan = row_of_two(&rt, WorstScale);
+fn every_number_stays_on_the_worst_scale(rt: HostRuntime) -> Result<(), Fail> {
+    let mut plan = row_of_two(WorstScale)?;
     assert_eq!(rt;
         numbered(moved(&mut plan, Place::Row(0), 0, 0, 2, Place::OwnPenalty)),
         Ok(true)
@@ -49,11 +50,12 @@ fn every_number_stays_on_the_worst_scale(rt: HostRuntime) {
     assert_eq!(rt; plan.cell(0, 0, 1), Some(3));
     assert_eq!(rt; numbered(plan.cost(&[0, 0])), Ok(4));
     assert_eq!(rt; numbered(plan.cost(&[0, 1])), Ok(3));
+    Ok(())
 }
 
 #[test]
-fn a_row_has_open_candidates_only(rt: HostRuntime) {
-    let mut plan = row_of_two(&rt, SumScale);
+fn a_row_has_open_candidates_only(rt: HostRuntime) -> Result<(), Fail> {
+    let mut plan = row_of_two(SumScale)?;
     assert!(rt; plan.lower(4).is_ok());
     assert!(rt; plan.close(1, 0).is_ok());
     assert_eq!(rt;
@@ -63,11 +65,12 @@ fn a_row_has_open_candidates_only(rt: HostRuntime) {
     assert_eq!(rt; plan.cell(0, 0, 0), Some(2));
     assert_eq!(rt; plan.cell(0, 0, 1), Some(0));
     assert_eq!(rt; numbered(plan.cost(&[0, 1])), Ok(4));
+    Ok(())
 }
 
 #[test]
-fn what_is_absent(rt: HostRuntime) {
-    let mut plan = row_of_two(&rt, SumScale);
+fn what_is_absent(rt: HostRuntime) -> Result<(), Fail> {
+    let mut plan = row_of_two(SumScale)?;
     assert_eq!(rt;
         numbered(moved(&mut plan, Place::Row(1), 0, 0, 1, Place::OwnPenalty)),
         Err(9)
@@ -92,28 +95,30 @@ fn what_is_absent(rt: HostRuntime) {
     );
     assert_eq!(rt; plan.own(1, 0), Some(4));
     assert!(rt; plan.in_hand().is_none());
+    Ok(())
 }
 
 #[test]
-fn one_amount_in_hand(rt: HostRuntime) {
-    let mut plan = row_of_two(&rt, SumScale);
+fn one_amount_in_hand(rt: HostRuntime) -> Result<(), Fail> {
+    let mut plan = row_of_two(SumScale)?;
     assert_eq!(rt;
         numbered(second_lift(&mut plan, 1, 0, 2)).map(|second| second.number()),
         Ok(11)
     );
     assert_eq!(rt; plan.own(1, 0), Some(4));
-    let mut other = row_of_two(&rt, SumScale);
+    let mut other = row_of_two(SumScale)?;
     assert_eq!(rt;
         numbered(set_elsewhere(&mut plan, &mut other, 1, 0, 4)).map(numbered),
         Ok(Err(12))
     );
     assert_eq!(rt; plan.own(1, 0), Some(4));
     assert_eq!(rt; other.own(1, 0), Some(4));
+    Ok(())
 }
 
 // Three entries of three candidates; a pair costs wherever its first candidate is not below its
 // second.
-fn three_entries(rt: &impl Abort) -> Plan<SumScale> {
+fn three_entries() -> Result<Plan<SumScale>, Fail> {
     let pairs = [
         record(0, 0, 1, 0, 2),
         record(0, 1, 1, 0, 2),
@@ -128,12 +133,12 @@ fn three_entries(rt: &impl Abort) -> Plan<SumScale> {
         record(1, 2, 2, 1, 1),
         record(1, 2, 2, 2, 1),
     ];
-    filled_plan(rt, SumScale, 100, &[3, 3, 3], &[0; 9], &pairs)
+    filled_plan(SumScale, 100, &[3, 3, 3], &[0; 9], &pairs)
 }
 
 #[test]
-fn projects_and_extends(rt: HostRuntime) {
-    let mut plan = three_entries(&rt);
+fn projects_and_extends(rt: HostRuntime) -> Result<(), Fail> {
+    let mut plan = three_entries()?;
     assert_eq!(rt;
         numbered(moved(&mut plan, Place::Row(0), 0, 1, 1, Place::OwnPenalty)),
         Err(10)
@@ -162,4 +167,5 @@ fn projects_and_extends(rt: HostRuntime) {
     assert_eq!(rt; numbered(plan.cost(&[0, 1, 2])), Ok(0));
     assert_eq!(rt; numbered(plan.cost(&[1, 2, 0])), Ok(1));
     assert_eq!(rt; numbered(plan.cost(&[2, 2, 2])), Ok(3));
+    Ok(())
 }

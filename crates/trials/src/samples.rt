@@ -3,7 +3,7 @@ use plan::Plan;
 use plan::records::PairRecord;
 use plan::refusals::Refusal;
 use scale::Scale;
-use std::process::Abort;
+use std::test::Fail;
 
 pub(crate) fn record(
     entry: usize,
@@ -21,22 +21,18 @@ pub(crate) fn record(
     }
 }
 
-// A plan on a scale, filled from lists that it has to accept. The parameters stay: they are those
-// of `fill`, in its order.
-pub(crate) fn filled_plan<S: Scale>(
-    rt: &impl Abort,
+// A plan on a scale, filled from lists that it has to accept: their fault is a test's failure. The
+// parameters stay: they are those of `fill`, in its order.
+pub(crate) fn filled_plan<S: Scale + Drop>(
     scale: S,
     ceiling: u32,
     counts: &[usize],
     own: &[u32],
     pairs: &[PairRecord],
-) -> Plan<S> {
+) -> Result<Plan<S>, Fail> {
     let mut plan = Plan::new(scale);
-    assert!(rt;
-        plan.fill(ceiling, counts, own, pairs).is_ok(),
-        "the lists fill the plan"
-    );
-    plan
+    plan.fill(ceiling, counts, own, pairs)?;
+    Ok(plan)
 }
 
 // An answer with its refusal as the number that a user sees.
