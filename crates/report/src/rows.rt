@@ -8,6 +8,10 @@ use scale::sum::SumScale;
 use scale::worst::WorstScale;
 use std::alloc::{AllocError, Global};
 
+// Room for the heading and the longest line of the sum scale, in bytes. The text doubles it as it
+// grows.
+const FIRST_ROOM: usize = 39;
+
 // A line for one penalty.
 // The text and the name stay parameters: `Lines { out, name }.push(..)` would be no shorter. What
 // the line says is a proved fact, of which a `fmt` of the values would promise nothing. Such bodies
@@ -61,7 +65,8 @@ pub(crate) fn row_report(
     ensures is_the_report { IfOk result (λ s. string_bytes s
         ≡ report_of (record { ceiling = ceiling; penalties = penalties.now })) }
 {
-    let mut out = String::from_str(heap, "scale penalty join\n")?;
+    let mut out = String::with_capacity(heap, FIRST_ROOM)?;
+    out.push_str("scale penalty join\n")?;
     push_running_lines(&mut out, "sum", &SumScale, ceiling, penalties)?;
     push_running_lines(&mut out, "worst", &WorstScale, ceiling, penalties)?;
     let sum = joined_penalty(&SumScale, ceiling, penalties);
